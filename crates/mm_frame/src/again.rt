@@ -9,7 +9,7 @@ ghost use Rattle.mm_machine.specs.Language.Names.{Begins};
 ghost use Rattle.mm_statement.specs.Language.Item as meant;
 
 use crate::base::Base;
-use crate::draft::{Draft, number_all};
+use crate::draft::{Draft, needs_no_names, read_numbered};
 use crate::names::Names;
 use mm_machine::NumberedSymbol;
 use mm_statement::{Statement, is_same_range};
@@ -31,16 +31,6 @@ fn is_again(old: &Base, i: usize, item: &Item) -> bool
     ensures { IsTrue result → IsAgain old.now.items i item.now }
 {
     i < old.count() && is_same_range(old.item(i), item)
-}
-
-/// Whether an item of this kind seldom needs the names of its symbols, which are kept if it is sound.
-fn needs_no_names(kind: ItemKind) -> bool
-    ensures { IsTrue result → is_read (kind_of kind) ≡ true }
-{
-    matches!(
-        kind,
-        ItemKind::Disjoint | ItemKind::Essential | ItemKind::Axiom | ItemKind::Theorem
-    )
 }
 
 /// What the item with this number in an older base knows of an item, if the two are the same.
@@ -142,9 +132,8 @@ fn read_again<'a>(
         read_known(draft, alloc, names, files, item, known)?;
         return Ok(i.saturating_add(1));
     }
-    let statement = Statement::read(alloc, files, item)?;
+    let statement = read_numbered(alloc, names, files, item, &mut draft.numbers)?;
     let next = place_behind(old, i, item, statement.label());
-    number_all(alloc, names, &statement, &mut draft.numbers)?;
     names.distinct();
     draft.add_numbered(alloc, names, &statement)?;
     Ok(next)

@@ -1,6 +1,6 @@
 //! A base in the making: what the items read so far leave.
 
-ghost use Rattle.std.specs.{Prelude.{◌≡◌, ◌∷◌, ◌++◌, ℕ, List, [], true, is_none, IfOk, MatchBool, OnOk, Ok, All, length}, Option.{option_map}, List.{AllZip}};
+ghost use Rattle.std.specs.{Prelude.{◌≡◌, ◌∷◌, ◌++◌, ℕ, List, [], true, is_none, IfOk, IsTrue, MatchBool, OnOk, Ok, All, length}, Option.{option_map}, List.{AllZip}};
 ghost use Rattle.mm_store.specs.Language.FileFacts.{CanBeRead};
 ghost use Rattle.mm_statement.specs.Language.{Item.{is_read}, Statement.{Says, kind_of}};
 ghost use Rattle.mm_frame.specs.{Language.{Sound.{AreSound, IsSound, sound_items}, Framing.{expression}, Base.{BaseView, fault_by, is_sound_at}}, Code.BlockMarks.{block_marks}};
@@ -28,7 +28,7 @@ use crate::symbol::{put_symbols, put_variables};
 use crate::tables::Tables;
 use crate::take_over::{ActiveDisjoints, OldItem};
 use mm_machine::NumberedSymbol;
-use mm_statement::Statement;
+use mm_statement::{Head, ProofWords, Statement, head_of};
 use mm_store::{Files, Item, ItemKind};
 use std::alloc::{AllocError, Global};
 use std::mem;
@@ -73,9 +73,19 @@ fn told_fault(kind: ItemKind, fault: &Option<FrameFault>) -> Option<FrameFault>
     }
 }
 
+/// Whether an item of this kind seldom needs the names of its symbols, which are kept if it is sound.
+pub fn needs_no_names(kind: ItemKind) -> bool
+    ensures { IsTrue result → is_read (kind_of kind) ≡ true }
+{
+    matches!(
+        kind,
+        ItemKind::Disjoint | ItemKind::Essential | ItemKind::Axiom | ItemKind::Theorem
+    )
+}
+
 /// Puts the numbers of the symbols of a statement, and names those that have none yet. Out of memory may leave more
 /// names.
-pub fn number_all(
+fn number_all(
     alloc: Global,
     names: &mut Names,
     statement: &Statement,
@@ -91,6 +101,51 @@ pub fn number_all(
         numbers.push(number)?;
     }
     Ok(())
+}
+
+/// Puts the numbers of words, and names those that have none yet. Out of memory may leave more names.
+fn number_words(
+    alloc: Global,
+    names: &mut Names,
+    words: ProofWords,
+    numbers: &mut Vec<usize>,
+) -> Result<(), AllocError>
+    ensures grows { Begins names.old names.new }
+    ensures count { OnOk result (length numbers.new.items ≡ length words.entry) }
+    ensures numbers { OnOk result ((all : List (List ℕ)) → Begins names.new all → AreNameNumbers all numbers.new.items words.entry) }
+{
+    numbers.clear();
+    let mut words = words;
+    while let Some(word) = words.next_word() {
+        let number = names.intern(alloc, word)?;
+        numbers.push(number)?;
+    }
+    Ok(())
+}
+
+/// What an item of the files says, and the numbers of its symbols; those that have none yet are named. Of a kind whose symbols
+/// are seldom asked for by their bytes these are not kept. Out of memory may leave more names.
+pub fn read_numbered<'a>(
+    alloc: Global,
+    names: &mut Names,
+    files: &'a Files,
+    item: &Item,
+    numbers: &mut Vec<usize>,
+) -> Result<Statement<'a>, AllocError>
+    requires { CanBeRead files.now item.now }
+    ensures grows { Begins names.old names.new }
+    ensures says { IfOk result (Says files.now item.now) }
+    ensures count { IfOk result (λ read. length numbers.new.items ≡ length read.symbols) }
+    ensures numbers { IfOk result (λ read. (all : List (List ℕ)) → Begins names.new all → AreNameNumbers all numbers.new.items read.symbols) }
+{
+    if needs_no_names(item.kind) {
+        let Head { label, symbols } = head_of(files, item);
+        number_words(alloc, &mut *names, symbols, &mut *numbers)?;
+        return Ok(Statement::known(alloc, files, item, label, numbers.len()));
+    }
+    let statement = Statement::read(alloc, files, item)?;
+    number_all(alloc, names, &statement, numbers)?;
+    Ok(statement)
 }
 
 /// Puts the symbols that are kept of a statement whose symbols have these numbers: of a sound `$f`, `$e`, `$a`, `$p` or `$d`.
@@ -354,8 +409,7 @@ impl<'a> Draft<'a> {
         ensures read { OnOk result ((one : meant.Said) × Says files.now item.now one
             × ((said : List meant.Said) → IsDraftLater names.old said self.old → IsDraftLater names.new (said ++ one ∷ []) self.new)) }
     {
-        let statement = Statement::read(alloc, files, item)?;
-        number_all(alloc, names, &statement, &mut self.numbers)?;
+        let statement = read_numbered(alloc, names, files, item, &mut self.numbers)?;
         names.distinct();
         self.add_numbered(alloc, names, &statement)
     }

@@ -179,3 +179,17 @@ module _ (text : List ℕ) (kind : Kind) (words : List Word) (label : Option Wor
 -- after the first word there are few
 pub few_more : (word : List ℕ) (words : List (List ℕ)) → AreFewWords (word ∷ words) → AreFewWords words
 few_more word words few = record { few = omega (arith, few.few); some = few.some.1; bytes = omega (arith, few.bytes, length-append word (flat_map (λ (w : List ℕ). w) words)) }
+
+-- the symbols are few, too
+pub symbols_few : (kind : Kind) (text : List ℕ) (words behind first : List Word) (label : Option Word) → TakesLabel (is_labelled kind) words label behind → first ≡ drop 1 behind
+    → length words ≤ 4294967295 → AreSome (spellings text words) → bytes_of (spellings text words) ≤ 4294967295 → AreFewWords (plain_bytes text first)
+symbols_few kind text words behind first label takes keyword few some bytes =
+    let from = symbols_from kind in
+    let at : first ≡ drop from words = keyword ∙ behind_label (is_labelled kind) words behind label takes in
+    let spelled : drop from (spellings text words) ≡ spellings text first = grind (arith, common_steps, drop-map, at) steps 200000 in
+    let fewer = subst (λ names. bytes_of names ≤ bytes_of (spellings text words)) spelled (bytes_behind from (spellings text words)) in
+    record {
+      few = omega (arith, proof_few text first, ap length at, length-drop from words, few);
+      some = proof_some text first (subst AreSome spelled (some_behind from (spellings text words) some));
+      bytes = omega (arith, proof_bytes text first, fewer, bytes);
+    }

@@ -18,5 +18,5 @@ pub use mm_store::{
 };
 pub use proof_words::ProofWords;
 pub use statement::{
-    Statement, has_bytes, is_same_range, nth_of_proof, same_proof, words_of_proof,
+    Head, Statement, has_bytes, head_of, is_same_range, nth_of_proof, same_proof, words_of_proof,
 };

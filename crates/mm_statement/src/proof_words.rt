@@ -1,4 +1,4 @@
-//! The words of a proof.
+//! The words of a statement up to a keyword: its symbols, or those of its proof.
 
 ghost use Rattle.std.specs.{Prelude.{◌≡◌, ◌<◌, ◌≤◌, ◌∷◌, [], MatchOption, length}, List.{AllByRecursion, flat_map}};
 ghost use Rattle.mm_statement.specs.Code.PlainWords.{AreFewWords, plain_bytes};
@@ -7,7 +7,7 @@ use crate::plain_words::{bytes_of, is_plain};
 use mm_store::WordCursor;
 use std::marker::Model;
 
-/// The words of a proof, one after another, from some word on. It takes no memory.
+/// The words of a proof, or the symbols of a statement, one after another, from some word on. It takes no memory.
 #[derive(Drop)]
 pub struct ProofWords<'a> {
     text: &'a [u8],
@@ -51,6 +51,7 @@ impl<'a> ProofWords<'a> {
     }
 
     /// Goes on by a word, and gives it; `None` if no word is left.
+    #[inline(always)]
     pub fn next_word(&mut self) -> Option<&'a [u8]>
         ensures { MatchOption result ((self.old ≡ []) × (self.new ≡ [])) (λ word. self.old ≡ word.now ∷ self.new) }
     {

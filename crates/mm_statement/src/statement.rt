@@ -254,6 +254,31 @@ impl<'a> Statement<'a> {
     }
 }
 
+/// The label of a statement, if it has one, and its symbols.
+#[derive(Drop)]
+pub struct Head<'a> {
+    pub label: Option<&'a [u8]>,
+    /// The symbols, one after another.
+    pub symbols: ProofWords<'a>,
+}
+
+/// The label of an item, if it has one, and its symbols, which are read when they are gone through. The bytes of the item are
+/// read up to its keyword. It takes no memory.
+pub fn head_of<'a>(files: &'a Files, item: &Item) -> Head<'a>
+    requires { CanBeRead files.now item.now }
+    ensures label { (said : meant.Said) → Says files.now item.now said → option_map (λ label. label.now) result.label ≡ said.label }
+    ensures symbols { (said : meant.Said) → Says files.now item.now said → result.symbols ≡ said.symbols }
+{
+    let (text, words) = words_of(files, item);
+    let mut words = words;
+    let label = read_label(item.kind, &mut words);
+    words.next_word();
+    Head {
+        label: label_bytes(text, label),
+        symbols: ProofWords::new(text, words),
+    }
+}
+
 /// The words of the proof of an item, from the first one on; none if it has no proof. The item's bytes are read up to
 /// its proof. It takes no memory.
 pub fn words_of_proof<'a>(files: &'a Files, item: &Item) -> ProofWords<'a>

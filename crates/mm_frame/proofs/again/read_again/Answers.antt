@@ -13,10 +13,10 @@ place_behind-next-requires c = (c.requires.older.0, (c.args.names.now, c.require
 
 pub returns-clause-read : goal.returns-clause-read
 returns-clause-read c =
-    let names = c.number_all.new.names in
-    let grows = c.in_ok-number_all.ensures.grows in
-    let numbers = c.in_ok-number_all.ensures.numbers in
-    let aside = λ (all : List (List ℕ)) (said : List Said) (d : IsDraft all said c.args.draft.now). numbers_aside all said c.args.draft.now c.number_all.new.numbers d in (
+    let names = c.read_numbered.new.names in
+    let grows = c.in_ok-statement.ensures.grows in
+    let numbers = c.in_ok-statement.ensures.numbers in
+    let aside = λ (all : List (List ℕ)) (said : List Said) (d : IsDraft all said c.args.draft.now). numbers_aside all said c.args.draft.now c.read_numbered.new.numbers d in (
       c.in_ok-statement.statement,
       c.in_ok-statement.ensures.says,
       λ said stands all distinct more.

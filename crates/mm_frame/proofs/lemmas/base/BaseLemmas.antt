@@ -171,7 +171,7 @@ pub ordered_numbered : {X : Type 0} (all : List (List ℕ)) (kept : X → List (
 ordered_numbered all kept base i found e = grind (arith, common_steps) steps 200000
 
 -- one more name with its number
-numbers_push : (all : List (List ℕ)) (numbers : List ℕ) (names : List (List ℕ)) (number : ℕ) (name : List ℕ) → AreNameNumbers all numbers names → IsNameNumber all number name → AreNameNumbers all (numbers ++ number ∷ []) (names ++ name ∷ [])
+pub numbers_push : (all : List (List ℕ)) (numbers : List ℕ) (names : List (List ℕ)) (number : ℕ) (name : List ℕ) → AreNameNumbers all numbers names → IsNameNumber all number name → AreNameNumbers all (numbers ++ number ∷ []) (names ++ name ∷ [])
 numbers_push all numbers names number name a there = record {
   count = (let p = length_push numbers number in let q = length_push names name in omega arith);
   each = grind (arith, a.each, get_cases, slice_get_within, get_or-append, get_or_push) steps 200000;

@@ -5,10 +5,10 @@ use Rattle.mm_frame.proofs.draft.Draft.read.Goals as goal
 
 pub returns-clause-read : goal.returns-clause-read
 returns-clause-read c =
-    let names = c.number_all.new.names in
-    let grows = c.number_all.ensures.grows in
-    let numbers = c.in_ok-number_all.ensures.numbers in
-    let aside = λ (all : List (List ℕ)) (said : List Said) (d : IsDraft all said c.args.self.now). numbers_aside all said c.args.self.now c.number_all.new.numbers d in
+    let names = c.read_numbered.new.names in
+    let grows = c.read_numbered.ensures.grows in
+    let numbers = c.in_ok-statement.ensures.numbers in
+    let aside = λ (all : List (List ℕ)) (said : List Said) (d : IsDraft all said c.args.self.now). numbers_aside all said c.args.self.now c.read_numbered.new.numbers d in
     on_ok_weaker c.add_numbered.result
     (λ takes. (
       c.in_ok-statement.statement,
