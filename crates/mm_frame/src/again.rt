@@ -9,7 +9,7 @@ ghost use Rattle.mm_machine.specs.Language.Names.{Begins};
 ghost use Rattle.mm_statement.specs.Language.Item as meant;
 
 use crate::base::Base;
-use crate::draft::{Draft, needs_no_names, read_numbered};
+use crate::draft::{Draft, read_numbered};
 use crate::names::Names;
 use mm_machine::NumberedSymbol;
 use mm_statement::{Statement, is_same_range};
@@ -33,6 +33,20 @@ fn is_again(old: &Base, i: usize, item: &Item) -> bool
     i < old.count() && is_same_range(old.item(i), item)
 }
 
+/// Whether the symbols of an item of this kind are kept if it is sound.
+fn keeps_symbols(kind: ItemKind) -> bool
+    ensures { result ≡ is_read (kind_of kind) }
+{
+    matches!(
+        kind,
+        ItemKind::Disjoint
+            | ItemKind::Floating
+            | ItemKind::Essential
+            | ItemKind::Axiom
+            | ItemKind::Theorem
+    )
+}
+
 /// What the item with this number in an older base knows of an item, if the two are the same.
 #[inline(always)]
 fn known_of<'a>(old: &'a Base, i: usize, item: &Item) -> Option<KnownStatement<'a>>
@@ -41,7 +55,7 @@ fn known_of<'a>(old: &'a Base, i: usize, item: &Item) -> Option<KnownStatement<'
         → IfSome result (IsKnownItem names files item.now) }
     ensures sound { (names : List (List ℕ)) (base : BaseView) → IsBaseBy names base old.now → IfSome result (IsSoundAgain names old.now.items base i item.now) }
 {
-    if !needs_no_names(item.kind) || !is_again(old, i, item) {
+    if !keeps_symbols(item.kind) || !is_again(old, i, item) {
         return None;
     }
     // A law: the same bytes say the same.
@@ -81,20 +95,20 @@ fn place_behind(old: &Base, i: usize, item: &Item, label: Option<&[u8]>) -> usiz
 }
 
 /// Reads one more item of the files, of which this is known.
-fn read_known<'a>(
-    draft: &mut Draft<'a>,
+fn read_known(
+    draft: &mut Draft,
     alloc: Global,
     names: &Names,
-    files: &'a Files,
+    files: &Files,
     item: &Item,
-    known: KnownStatement<'a>,
+    known: KnownStatement,
 ) -> Result<(), AllocError>
     requires read { CanBeRead files.now item.now }
     requires known { IsKnownItem names.now files.now item.now known }
     ensures { OnOk result ((one : meant.Said) × Says files.now item.now one
         × ((said : List meant.Said) → IsDraftLater names.now said draft.old → IsDraftLater names.now (said ++ one ∷ []) draft.new)) }
 {
-    let statement = Statement::known(alloc, files, item, known.label, known.symbols.len());
+    let statement = Statement::known(files, item, known.label);
     names.distinct();
     if draft.take_known(alloc, names, &statement, known.symbols)? {
         return Ok(());
@@ -112,13 +126,13 @@ pub struct Beside<'a> {
 
 /// Reads one more item of the files, which may be the next one of an older base, and answers which may be the next one then.
 /// After out of memory there may be more names.
-fn read_again<'a>(
-    draft: &mut Draft<'a>,
+fn read_again(
+    draft: &mut Draft,
     alloc: Global,
     names: &mut Names,
-    files: &'a Files,
+    files: &Files,
     item: &Item,
-    beside: Beside<'a>,
+    beside: Beside,
 ) -> Result<usize, AllocError>
     requires read { CanBeRead files.now item.now }
     requires older { HasOlder names.old files.now beside.base.now }
@@ -164,12 +178,12 @@ struct KnownBy<'a> {
 }
 
 /// Takes one more item over from an older base, which knows it. All items before it are the first ones of the older base.
-fn take_over_known<'a>(
-    draft: &mut Draft<'a>,
+fn take_over_known(
+    draft: &mut Draft,
     alloc: Global,
-    files: &'a Files,
+    files: &Files,
     item: &Item,
-    by: KnownBy<'a>,
+    by: KnownBy,
 ) -> Result<(), AllocError>
     requires read { CanBeRead files.now item.now }
     requires known { (names : List (List ℕ)) × IsKnownItem names files.now item.now by.known }
@@ -182,7 +196,7 @@ fn take_over_known<'a>(
 {
     let KnownBy { base, known } = by;
     put_needed(item.kind, known.symbols, &mut draft.numbers)?;
-    let statement = Statement::known(alloc, files, item, known.label, known.symbols.len());
+    let statement = Statement::known(files, item, known.label);
     // A law: the same bytes say the same.
     mm_statement::one_range_says_one();
     draft.take_over(alloc, &statement, known.symbols, base)
@@ -214,13 +228,13 @@ fn is_same_again(beside: BesideFrom, i: usize, item: &Item) -> bool
 
 /// Reads one more item of the files: takes it over from an older base, if all items before it are the first ones there. After
 /// out of memory there may be more names.
-fn read_next<'a>(
-    draft: &mut Draft<'a>,
+fn read_next(
+    draft: &mut Draft,
     alloc: Global,
     names: &mut Names,
-    files: &'a Files,
+    files: &Files,
     item: &Item,
-    beside: BesideFrom<'a>,
+    beside: BesideFrom,
 ) -> Result<Reached, AllocError>
     requires read { CanBeRead files.now item.now }
     requires older { HasOlder names.old files.now beside.base.now }
@@ -250,13 +264,13 @@ fn read_next<'a>(
 
 /// Reads some more items of the files, the first ones, with the help of an older base. After out of memory there may be more
 /// names.
-fn read_each_again<'a>(
-    draft: &mut Draft<'a>,
+fn read_each_again(
+    draft: &mut Draft,
     alloc: Global,
     names: &mut Names,
-    files: &'a Files,
+    files: &Files,
     items: &[Item],
-    old: &'a Base,
+    old: &Base,
 ) -> Result<(), AllocError>
     requires read { All (CanBeRead files.now) items.now }
     requires older { HasOlder names.old files.now old.now }
@@ -281,13 +295,13 @@ fn read_each_again<'a>(
 }
 
 /// Reads items of the files, from the first one on, with the help of an older base.
-pub fn read_all_again<'a>(
+pub fn read_all_again(
     alloc: Global,
     names: &mut Names,
-    files: &'a Files,
+    files: &Files,
     items: &[Item],
-    old: &'a Base,
-) -> Result<Draft<'a>, AllocError>
+    old: &Base,
+) -> Result<Draft, AllocError>
     requires read { All (CanBeRead files.now) items.now }
     requires older { HasOlder names.old files.now old.now }
     ensures grows { Begins names.old names.new }

@@ -28,15 +28,15 @@ use crate::symbol::{put_symbols, put_variables};
 use crate::tables::Tables;
 use crate::take_over::{ActiveDisjoints, OldItem};
 use mm_machine::NumberedSymbol;
-use mm_statement::{Head, ProofWords, Statement, head_of};
+use mm_statement::{PlainWords, Statement};
 use mm_store::{Files, Item, ItemKind};
 use std::alloc::{AllocError, Global};
 use std::mem;
 
 /// What is kept of the items so far.
 #[derive(Drop)]
-pub struct Draft<'a> {
-    scope: Scope<'a>,
+pub struct Draft {
+    scope: Scope,
     /// The numbers of the symbols of the last statement.
     pub numbers: Vec<usize>,
     /// The symbols that are kept of it.
@@ -73,58 +73,28 @@ fn told_fault(kind: ItemKind, fault: &Option<FrameFault>) -> Option<FrameFault>
     }
 }
 
-/// Whether an item of this kind seldom needs the names of its symbols, which are kept if it is sound.
-pub fn needs_no_names(kind: ItemKind) -> bool
-    ensures { IsTrue result → is_read (kind_of kind) ≡ true }
-{
-    matches!(
-        kind,
-        ItemKind::Disjoint | ItemKind::Essential | ItemKind::Axiom | ItemKind::Theorem
-    )
-}
-
-/// Puts the numbers of the symbols of a statement, and names those that have none yet. Out of memory may leave more
-/// names.
+/// Puts the numbers of some symbols, and names those that have none yet. Out of memory may leave more names.
 fn number_all(
     alloc: Global,
     names: &mut Names,
-    statement: &Statement,
+    symbols: PlainWords,
     numbers: &mut Vec<usize>,
 ) -> Result<(), AllocError>
     ensures grows { Begins names.old names.new }
-    ensures count { OnOk result (length numbers.new.items ≡ length statement.now.symbols) }
-    ensures numbers { OnOk result ((all : List (List ℕ)) → Begins names.new all → AreNameNumbers all numbers.new.items statement.now.symbols) }
+    ensures count { OnOk result (length numbers.new.items ≡ length symbols.entry) }
+    ensures numbers { OnOk result ((all : List (List ℕ)) → Begins names.new all → AreNameNumbers all numbers.new.items symbols.entry) }
 {
     numbers.clear();
-    for n in 0..statement.symbol_count() {
-        let number = names.intern(alloc, statement.symbol(n))?;
+    let mut symbols = symbols;
+    while let Some(symbol) = symbols.next_word() {
+        let number = names.intern(alloc, symbol)?;
         numbers.push(number)?;
     }
     Ok(())
 }
 
-/// Puts the numbers of words, and names those that have none yet. Out of memory may leave more names.
-fn number_words(
-    alloc: Global,
-    names: &mut Names,
-    words: ProofWords,
-    numbers: &mut Vec<usize>,
-) -> Result<(), AllocError>
-    ensures grows { Begins names.old names.new }
-    ensures count { OnOk result (length numbers.new.items ≡ length words.entry) }
-    ensures numbers { OnOk result ((all : List (List ℕ)) → Begins names.new all → AreNameNumbers all numbers.new.items words.entry) }
-{
-    numbers.clear();
-    let mut words = words;
-    while let Some(word) = words.next_word() {
-        let number = names.intern(alloc, word)?;
-        numbers.push(number)?;
-    }
-    Ok(())
-}
-
-/// What an item of the files says, and the numbers of its symbols; those that have none yet are named. Of a kind whose symbols
-/// are seldom asked for by their bytes these are not kept. Out of memory may leave more names.
+/// What an item of the files says, and the numbers of its symbols; those that have none yet are named. Out of memory may leave
+/// more names.
 pub fn read_numbered<'a>(
     alloc: Global,
     names: &mut Names,
@@ -138,13 +108,8 @@ pub fn read_numbered<'a>(
     ensures count { IfOk result (λ read. length numbers.new.items ≡ length read.symbols) }
     ensures numbers { IfOk result (λ read. (all : List (List ℕ)) → Begins names.new all → AreNameNumbers all numbers.new.items read.symbols) }
 {
-    if needs_no_names(item.kind) {
-        let Head { label, symbols } = head_of(files, item);
-        number_words(alloc, &mut *names, symbols, &mut *numbers)?;
-        return Ok(Statement::known(alloc, files, item, label, numbers.len()));
-    }
-    let statement = Statement::read(alloc, files, item)?;
-    number_all(alloc, names, &statement, numbers)?;
+    let (statement, symbols) = Statement::read(files, item);
+    number_all(alloc, names, symbols, numbers)?;
     Ok(statement)
 }
 
@@ -178,7 +143,7 @@ fn keep_symbols(
 
 /// What is known of the sound items before an assertion, by what is kept of them.
 fn earlier<'b>(
-    scope: &'b Scope<'_>,
+    scope: &'b Scope,
     pairs: &'b PairTable,
     active: &'b ActiveItems,
     expressions: &'b Expressions,
@@ -228,7 +193,7 @@ fn with<A: Drop, B: Drop>(one: A, more: Result<B, AllocError>) -> Result<(A, B),
     Ok((one, more?))
 }
 
-impl<'a> Draft<'a> {
+impl Draft {
     ghost use Rattle.mm_frame.specs.Code.KeptBase.{IsDraft, IsDraftApart, IsDraftLater, AreParts};
 
     /// No items, with room for this many.
@@ -259,7 +224,7 @@ impl<'a> Draft<'a> {
     fn follow(
         &mut self,
         alloc: Global,
-        statement: &Statement<'a>,
+        statement: &Statement,
         symbols: &[NumberedSymbol],
         fault: &Option<FrameFault>,
     ) -> Result<(), AllocError>
@@ -292,7 +257,7 @@ impl<'a> Draft<'a> {
     fn add(
         &mut self,
         alloc: Global,
-        statement: &Statement<'a>,
+        statement: &Statement,
         symbols: &[NumberedSymbol],
         fault: &Option<FrameFault>,
     ) -> Result<(), AllocError>
@@ -324,7 +289,7 @@ impl<'a> Draft<'a> {
         &mut self,
         alloc: Global,
         names: &Names,
-        statement: &Statement<'a>,
+        statement: &Statement,
     ) -> Result<(), AllocError>
         requires { length self.old.numbers.items ≡ length statement.now.symbols }
         ensures { OnOk result ((all : List (List ℕ)) (said : List meant.Said) → IsDraft names.now said self.old → IsDraft all said self.old
@@ -347,7 +312,7 @@ impl<'a> Draft<'a> {
         &mut self,
         alloc: Global,
         names: &Names,
-        statement: &Statement<'a>,
+        statement: &Statement,
         symbols: &[NumberedSymbol],
     ) -> Result<bool, AllocError>
         requires { length symbols.now ≡ length statement.now.symbols }
@@ -376,7 +341,7 @@ impl<'a> Draft<'a> {
     pub fn take_over(
         &mut self,
         alloc: Global,
-        statement: &Statement<'a>,
+        statement: &Statement,
         symbols: &[NumberedSymbol],
         old: &Base,
     ) -> Result<(), AllocError>
@@ -401,7 +366,7 @@ impl<'a> Draft<'a> {
         &mut self,
         alloc: Global,
         names: &mut Names,
-        files: &'a Files,
+        files: &Files,
         item: &Item,
     ) -> Result<(), AllocError>
         requires { CanBeRead files.now item.now }
@@ -418,9 +383,9 @@ impl<'a> Draft<'a> {
     pub fn read_all(
         alloc: Global,
         names: &mut Names,
-        files: &'a Files,
+        files: &Files,
         items: &[Item],
-    ) -> Result<Draft<'a>, AllocError>
+    ) -> Result<Draft, AllocError>
         requires { All (CanBeRead files.now) items.now }
         ensures grows { Begins names.old names.new }
         ensures read { IfOk result (λ draft. (said : List meant.Said) × AllZip (Says files.now) items.now said × IsDraftLater names.new said draft) }
@@ -440,7 +405,7 @@ impl<'a> Draft<'a> {
         &mut self,
         alloc: Global,
         names: &mut Names,
-        files: &'a Files,
+        files: &Files,
         items: &[Item],
     ) -> Result<(), AllocError>
         requires { All (CanBeRead files.now) items.now }
@@ -456,7 +421,7 @@ impl<'a> Draft<'a> {
 
     /// What is kept when all items are read.
     pub fn parts(self) -> BaseParts
-        ensures { (all : List (List ℕ)) (said : List meant.Said) → IsDraft all said self.entry → AreParts all said result }
+        ensures { (all : List (List ℕ)) (said : List meant.Said) → IsDraft all said self → AreParts all said result }
     {
         let Draft {
             scope,

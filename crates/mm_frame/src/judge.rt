@@ -49,21 +49,27 @@ fn front_fault(names: &Names, scope: &Scope, statement: &Statement) -> Option<Fr
     label_fault(names, scope, statement.label()?)
 }
 
-/// What is wrong with a symbol of a `$c` or `$v`: `repeated` says that it occurs earlier in the same statement, and
-/// `declared` that it is a symbol already and must not be declared again.
-fn declared_fault(scope: &Scope, name: &[u8], repeated: bool, declared: bool) -> Option<FrameNumber>
-    ensures constant { (all : List (List ℕ)) (before : List Said) (item : Said) (n : ℕ) → AreSound before → ScopeHolds all before scope.now
-        → repeated ≡ sound.is_repeated item n name.now → declared ≡ sound.is_declared before name.now
-        → result ≡ judging.constant_fault before item n name.now }
-    ensures variable { (all : List (List ℕ)) (before : List Said) (item : Said) (n : ℕ) → AreSound before → ScopeHolds all before scope.now
-        → repeated ≡ sound.is_repeated item n name.now → declared ≡ sound.is_active_symbol before name.now
-        → result ≡ judging.variable_fault before item n name.now }
+/// What is wrong with a symbol of a `$c` or `$v`, given by its number: `repeated` says that it occurs earlier in the same
+/// statement, and `declared` that it is a symbol already and must not be declared again.
+fn declared_fault(
+    names: &Names,
+    scope: &Scope,
+    number: usize,
+    repeated: bool,
+    declared: bool,
+) -> Option<FrameNumber>
+    ensures constant { (before : List Said) (item : Said) (n : ℕ) (name : List ℕ) → AreSound before → ScopeHolds names.now before scope.now
+        → IsNameNumber names.now number name → repeated ≡ sound.is_repeated item n name → declared ≡ sound.is_declared before name
+        → result ≡ judging.constant_fault before item n name }
+    ensures variable { (before : List Said) (item : Said) (n : ℕ) (name : List ℕ) → AreSound before → ScopeHolds names.now before scope.now
+        → IsNameNumber names.now number name → repeated ≡ sound.is_repeated item n name → declared ≡ sound.is_active_symbol before name
+        → result ≡ judging.variable_fault before item n name }
 {
     if repeated {
         Some(FrameNumber::F03)
     } else if declared {
         Some(FrameNumber::F04)
-    } else if scope.is_label(name) {
+    } else if scope.is_label(names.name(number)) {
         Some(FrameNumber::F05)
     } else {
         None
@@ -96,10 +102,10 @@ fn typecode_fault(scope: &Scope, number: usize) -> Option<FrameNumber>
     None
 }
 
-/// What is wrong with the variable of a `$f`, given by its number, that gives it this typecode.
-fn typed_fault(scope: &Scope, number: usize, typecode: &[u8]) -> Option<FrameNumber>
+/// What is wrong with the variable of a `$f` that gives it this typecode; both are given by their numbers.
+fn typed_fault(scope: &Scope, number: usize, typecode: usize) -> Option<FrameNumber>
     ensures { (all : List (List ℕ)) (before : List Said) (item : Said) (name : List ℕ) → AreSound before → ScopeHolds all before scope.now
-        → IsNameNumber all number name → meant.typecode_of item ≡ typecode.now → result ≡ judging.typed_fault before item name }
+        → IsNameNumber all number name → IsNameNumber all typecode (meant.typecode_of item) → result ≡ judging.typed_fault before item name }
 {
     if !scope.is_active_variable(number) {
         Some(FrameNumber::F09)
@@ -112,21 +118,15 @@ fn typed_fault(scope: &Scope, number: usize, typecode: &[u8]) -> Option<FrameNum
     }
 }
 
-/// What is wrong with the n-th symbol of a `$f`, counted from 0, which has this number.
-fn floating_fault(
-    scope: &Scope,
-    statement: &Statement,
-    n: usize,
-    number: usize,
-) -> Option<FrameNumber>
-    requires { n < length statement.now.symbols }
-    ensures { (all : List (List ℕ)) (before : List Said) → AreSound before → ScopeHolds all before scope.now
-        → IsNameNumber all number (slice_index_or statement.now.symbols n [])
-        → result ≡ judging.floating_fault before statement.now n (slice_index_or statement.now.symbols n []) }
+/// What is wrong with the n-th symbol of a `$f`, counted from 0, whose symbols have these numbers.
+fn floating_fault(scope: &Scope, numbers: &[usize], n: usize) -> Option<FrameNumber>
+    requires { n < length numbers.now }
+    ensures { (all : List (List ℕ)) (before : List Said) (item : Said) → AreSound before → ScopeHolds all before scope.now
+        → AreNameNumbers all numbers.now item.symbols → result ≡ judging.floating_fault before item n (slice_index_or item.symbols n []) }
 {
     match n {
-        0 => typecode_fault(scope, number),
-        1 => typed_fault(scope, number, statement.symbol(0)),
+        0 => typecode_fault(scope, numbers[0]),
+        1 => typed_fault(scope, numbers[1], numbers[0]),
         _ => Some(FrameNumber::F01),
     }
 }
@@ -202,32 +202,34 @@ fn must_differ(kind: ItemKind) -> bool
     )
 }
 
-/// What is wrong with the n-th symbol, counted from 0, which has this number. For a kind that forbids a symbol twice it is
-/// known whether this one occurs earlier in the same statement.
+/// What is wrong with the n-th symbol, counted from 0, of a statement whose symbols have these numbers. For a kind that forbids
+/// a symbol twice it is known whether this one occurs earlier in the same statement.
 fn symbol_fault(
+    names: &Names,
     scope: &Scope,
     statement: &Statement,
+    numbers: &[usize],
     n: usize,
-    number: usize,
     repeated: bool,
 ) -> Option<FrameNumber>
-    requires { n < length statement.now.symbols }
-    ensures { (all : List (List ℕ)) (before : List Said) → AreSound before → ScopeHolds all before scope.now
-        → IsNameNumber all number (slice_index_or statement.now.symbols n [])
+    requires { n < length numbers.now }
+    ensures { (before : List Said) → AreSound before → ScopeHolds names.now before scope.now
+        → AreNameNumbers names.now numbers.now statement.now.symbols
         → (judging.must_differ statement.now.kind ≡ true → repeated ≡ sound.is_repeated statement.now n (slice_index_or statement.now.symbols n []))
         → result ≡ judging.symbol_fault before statement.now n (slice_index_or statement.now.symbols n []) }
 {
+    let number = numbers[n];
     match statement.kind() {
         ItemKind::Constants => {
             let declared = scope.is_declared(number);
-            declared_fault(scope, statement.symbol(n), repeated, declared)
+            declared_fault(names, scope, number, repeated, declared)
         }
         ItemKind::Variables => {
             let active = scope.is_active_symbol(number);
-            declared_fault(scope, statement.symbol(n), repeated, active)
+            declared_fault(names, scope, number, repeated, active)
         }
         ItemKind::Disjoint => disjoint_fault(scope, number, repeated),
-        ItemKind::Floating => floating_fault(scope, statement, n, number),
+        ItemKind::Floating => floating_fault(scope, numbers, n),
         ItemKind::Essential | ItemKind::Axiom | ItemKind::Theorem => {
             expression_fault(scope, n, number)
         }
@@ -276,24 +278,25 @@ fn is_repeated(
 /// The first fault among the symbols, which have these numbers. Memory is taken if many have to differ.
 fn symbols_fault(
     alloc: Global,
+    names: &Names,
     scope: &Scope,
     statement: &Statement,
     numbers: &[usize],
 ) -> Result<Option<FrameFault>, AllocError>
     requires { length numbers.now ≡ length statement.now.symbols }
-    ensures { (all : List (List ℕ)) (before : List Said) → AreSound before → ScopeHolds all before scope.now
-        → AreNameNumbers all numbers.now statement.now.symbols
+    ensures { (before : List Said) → AreSound before → ScopeHolds names.now before scope.now
+        → AreNameNumbers names.now numbers.now statement.now.symbols
         → IfOk result (λ found. option_map (λ f. (f.word, f.number)) found ≡ judging.symbols_fault before statement.now) }
 {
     if has_expression(statement.kind()) {
         return Ok(expression_symbols_fault(scope, statement, numbers));
     }
     let differ = must_differ(statement.kind());
-    let kept = differ && statement.symbol_count() > FEW_SYMBOLS;
+    let kept = differ && numbers.len() > FEW_SYMBOLS;
     let mut seen = HashSet::new(alloc);
-    for n in 0..statement.symbol_count() {
+    for n in 0..numbers.len() {
         let repeated = is_repeated(&mut seen, numbers, n, differ, kept)?;
-        if let Some(number) = symbol_fault(scope, statement, n, numbers[n], repeated) {
+        if let Some(number) = symbol_fault(names, scope, statement, numbers, n, repeated) {
             let word = statement.symbol_place(n);
             return Ok(Some(FrameFault { number, word }));
         }
@@ -312,11 +315,11 @@ fn is_short(kind: ItemKind, count: usize) -> bool
     }
 }
 
-/// The fault at the end: there are too few symbols.
-fn end_fault(statement: &Statement) -> Option<FrameFault>
+/// The fault at the end of a statement with this many symbols: they are too few.
+fn end_fault(statement: &Statement, count: usize) -> Option<FrameFault>
+    requires { count ≡ length statement.now.symbols }
     ensures { option_map (λ f. (f.word, f.number)) result ≡ sound.fault_or (sound.closing_word statement.now) (judging.end_fault statement.now) None }
 {
-    let count = statement.symbol_count();
     if !is_short(statement.kind(), count) {
         return None;
     }
@@ -344,10 +347,10 @@ pub fn fault_of(
     if let Some(number) = front_fault(names, scope, statement) {
         return Ok(Some(FrameFault { number, word: 0 }));
     }
-    if let Some(fault) = symbols_fault(alloc, scope, statement, numbers)? {
+    if let Some(fault) = symbols_fault(alloc, names, scope, statement, numbers)? {
         return Ok(Some(fault));
     }
-    Ok(end_fault(statement))
+    Ok(end_fault(statement, numbers.len()))
 }
 
 /// Whether the n-th symbol of a `$e`, `$a` or `$p`, counted from 0, has no fault, and is a constant or a variable as its name

@@ -56,7 +56,7 @@ pub use laws::{
 };
 pub use mm_machine::{NamedSymbol, NumberedSymbol, Symbol};
 pub use mm_statement::{
-    ProofWords, Statement, databases_are_read_so, databases_are_there, files_have_one_database,
+    PlainWords, Statement, databases_are_read_so, databases_are_there, files_have_one_database,
     has_bytes, items_are_located, missing_are_named, names_are_taken, nth_of_proof, same_proof,
     words_of_proof,
 };

@@ -2,7 +2,7 @@
 
 ghost use Rattle.std.specs.{Prelude.{◌≡◌, ℕ, List, [], ◌∷◌, ◌++◌, Some, false, IfOk, IfSome, OnErr, length, slice_get, bytes_eq}, List.{list_any}};
 ghost use Rattle.mm_machine.specs.Language.Names.{AreDistinct, Begins};
-ghost use Rattle.mm_frame.specs.Code.{KeptNames.{IsFoundIn}, Numbers.{number_in}};
+ghost use Rattle.mm_frame.specs.Code.{KeptNames.{IsFoundIn}, Numbers.{IsNameNumber, number_in}};
 
 use crate::codes::code_of;
 use indexmap::IndexSet;
@@ -80,6 +80,16 @@ impl Names {
         ensures distinct { AreDistinct self.now }
     {
         self.names.get_index_of(name)
+    }
+
+    /// The name with this number; no bytes if there is none.
+    pub(crate) fn name(&self, number: usize) -> &[u8]
+        ensures { (name : List ℕ) → IsNameNumber self.now number name → result.now ≡ name }
+    {
+        match self.names.get_index(number) {
+            Some(name) => name,
+            None => b"",
+        }
     }
 
     /// The number of the name with a code, if it was found last at its place.

@@ -1,8 +1,7 @@
 //! What the sound items so far declare, and which of it is active.
 
-ghost use Rattle.std.specs.Prelude.{◌≡◌, ℕ, is_none, true, List, [], ◌∷◌, ◌++◌, OnOk, IfOk, IsTrue, slice_index_or};
-ghost use Rattle.mm_frame.specs.{Language.{Marks.{mark_of}, Sound.{AreSound}}, Code.{BlockMarks.{block_marks}, KeptTables.{Knows}, KeptScope.{float_typecode}, KeptSymbols.{symbol_by}}};
-ghost use Rattle.mm_frame.specs.Code.Numbers.{IsNameNumber};
+ghost use Rattle.std.specs.Prelude.{◌≡◌, ◌<◌, ℕ, is_none, true, List, [], ◌∷◌, ◌++◌, OnOk, IfOk, IsTrue, length, slice_index_or};
+ghost use Rattle.mm_frame.specs.{Language.{Marks.{mark_of}, Sound.{AreSound}}, Code.{BlockMarks.{block_marks}, KeptTables.{Knows}, KeptSymbols.{symbol_by}, Numbers.{AreNameNumbers, IsNameNumber}}};
 ghost use Rattle.mm_statement.specs.Language.Statement.{kind_of};
 ghost use Rattle.mm_machine.specs.Language.Names.{AreDistinct};
 ghost use Rattle.mm_statement.specs.Language.Item as meant;
@@ -24,21 +23,21 @@ use std::alloc::{AllocError, Global};
 /// Items are numbered from 0 in order; an item that is not sound is passed over and keeps its number. To take one
 /// costs time near linear in its words, and each question the time of a look-up by hash.
 #[derive(Drop)]
-pub struct Scope<'a> {
+pub struct Scope {
     tables: Tables,
     blocks: Blocks,
-    /// The typecode of each `$f`, by the number of the item: empty for any other item.
-    typecodes: Vec<&'a [u8]>,
+    /// The number of the typecode of each `$f`, by the number of the item: 0 for any other item.
+    typecodes: Vec<usize>,
 }
 
-/// The typecode of a `$f`; no bytes for any other statement, of which no symbol is looked at.
-fn float_typecode<'a>(statement: &Statement<'a>) -> &'a [u8]
-    ensures { result.now ≡ float_typecode statement.now }
+/// The number of the typecode of a `$f` whose symbols have these numbers; 0 for any other item.
+fn float_typecode(kind: ItemKind, numbers: &[usize]) -> usize
+    ensures { (all : List (List ℕ)) (item : meant.Said) → kind_of kind ≡ item.kind → meant.is_kind meant.Floating item.kind ≡ true
+        → 0 < length item.symbols → AreNameNumbers all numbers.now item.symbols → IsNameNumber all result (meant.typecode_of item) }
 {
-    if matches!(statement.kind(), ItemKind::Floating) && statement.symbol_count() > 0 {
-        statement.symbol(0)
-    } else {
-        b""
+    match kind {
+        ItemKind::Floating => numbers.first().copied().unwrap_or(0),
+        _ => 0,
     }
 }
 
@@ -53,8 +52,8 @@ fn mark(blocks: &mut Blocks, kind: ItemKind) -> Result<(), AllocError>
     }
 }
 
-impl<'a> Scope<'a> {
-    ghost use Rattle.mm_frame.specs.Code.KeptScope.{ScopeHolds, ScopeTakes, typecodes_of};
+impl Scope {
+    ghost use Rattle.mm_frame.specs.Code.KeptScope.{ScopeHolds, ScopeTakes};
 
     /// No items, with room for this many.
     pub fn with_room(alloc: Global, count: usize) -> Result<Self, AllocError>
@@ -178,17 +177,17 @@ impl<'a> Scope<'a> {
         }
     }
 
-    /// The typecode of the `$f` with this number; no bytes if there is no such item.
-    fn typecode(&self, number: usize) -> &'a [u8]
-        ensures { result.now ≡ slice_index_or (typecodes_of self.now) number [] }
+    /// The number of the typecode of the `$f` with this number; 0 if there is no such item.
+    fn typecode(&self, number: usize) -> usize
+        ensures { result ≡ slice_index_or self.now.typecodes.items number 0 }
     {
-        self.typecodes.get(number).copied().unwrap_or(b"")
+        self.typecodes.get(number).copied().unwrap_or(0)
     }
 
-    /// Whether a `$f`, active or not, gives the name with this number another typecode than this one.
-    pub fn is_typed_otherwise(&self, number: usize, typecode: &[u8]) -> bool
+    /// Whether a `$f`, active or not, gives the name with this number another typecode than the one with that number.
+    pub fn is_typed_otherwise(&self, number: usize, typecode: usize) -> bool
         ensures { (all : List (List ℕ)) (before : List meant.Said) (item : meant.Said) (name : List ℕ) → AreSound before → ScopeHolds all before self.now
-            → meant.typecode_of item ≡ typecode.now → IsNameNumber all number name → result ≡ sound.is_typed_otherwise before item name }
+            → IsNameNumber all typecode (meant.typecode_of item) → IsNameNumber all number name → result ≡ sound.is_typed_otherwise before item name }
     {
         match self.float(number) {
             Some(float) => self.typecode(float) != typecode,
@@ -207,7 +206,7 @@ impl<'a> Scope<'a> {
     fn add(
         &mut self,
         alloc: Global,
-        statement: &Statement<'a>,
+        statement: &Statement,
         numbers: &[usize],
     ) -> Result<(), AllocError>
         ensures { OnOk result (ScopeTakes numbers.now self.old statement.now true self.new) }
@@ -215,7 +214,8 @@ impl<'a> Scope<'a> {
         self.tables
             .add(alloc, statement, numbers, self.typecodes.len())?;
         mark(&mut self.blocks, statement.kind())?;
-        self.typecodes.push(float_typecode(statement))?;
+        self.typecodes
+            .push(float_typecode(statement.kind(), numbers))?;
         Ok(())
     }
 
@@ -223,7 +223,7 @@ impl<'a> Scope<'a> {
     pub fn next(
         &mut self,
         alloc: Global,
-        statement: &Statement<'a>,
+        statement: &Statement,
         numbers: &[usize],
         sound: bool,
     ) -> Result<(), AllocError>
@@ -233,7 +233,7 @@ impl<'a> Scope<'a> {
             return self.add(alloc, statement, numbers);
         }
         self.blocks.pass()?;
-        self.typecodes.push(b"")?;
+        self.typecodes.push(0)?;
         Ok(())
     }
 
@@ -253,7 +253,7 @@ impl<'a> Scope<'a> {
 
     /// What the sound items declare, and their blocks.
     pub fn tables_and_blocks(self) -> (Tables, Blocks)
-        ensures { (all : List (List ℕ)) (before : List meant.Said) → ScopeHolds all before self.entry
+        ensures { (all : List (List ℕ)) (before : List meant.Said) → ScopeHolds all before self
             → Knows all before result.0 × (result.1 ≡ block_marks before) }
     {
         (self.tables, self.blocks)

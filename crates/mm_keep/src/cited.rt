@@ -6,10 +6,10 @@ ghost use Rattle.mm_keep.specs.Language.{Citations.{CitesItem}, Sessions.{IsAsse
 ghost use Rattle.mm_keep.specs.Code.Cited.{AreRising, HasChecks, HasLabelAmong, HasPlaceFor, HasPlaces, IsAmongCited, MarksMore, OfChecks, passed_words};
 
 use crate::kept::{Checks, KeptCheck};
-use mm_proof::{Base, Files, ProofWords, cites_rise, cites_tell, has_own_labels, words_of_proof};
+use mm_proof::{Base, Files, PlainWords, cites_rise, cites_tell, has_own_labels, words_of_proof};
 
 /// The word after this many others, if there is one. It is passed, and so are those before it.
-fn word_behind<'a>(words: &mut ProofWords<'a>, count: usize) -> Option<&'a [u8]>
+fn word_behind<'a>(words: &mut PlainWords<'a>, count: usize) -> Option<&'a [u8]>
     ensures word { option_map (λ word. word.now) result ≡ slice_get words.old count }
     ensures left { words.new ≡ drop (count + 1) words.old }
 {
@@ -33,7 +33,7 @@ fn between(check: &KeptCheck, x: usize) -> usize
 }
 
 /// The word that cites at this place. It is passed, and so are those before it.
-fn cited_word<'a>(words: &mut ProofWords<'a>, check: &KeptCheck, x: usize) -> Option<&'a [u8]>
+fn cited_word<'a>(words: &mut PlainWords<'a>, check: &KeptCheck, x: usize) -> Option<&'a [u8]>
     requires rise { AreRising check.now.cites }
     requires within { x < length check.now.cites }
     ensures word { (all : List (List ℕ)) → words.old ≡ drop (passed_words check.now.cites x) all
@@ -54,7 +54,7 @@ fn mark(base: &Base, label: &[u8], marks: &mut [bool])
 }
 
 /// Marks the items whose labels are words that cite.
-fn mark_words(base: &Base, words: ProofWords, check: &KeptCheck, marks: &mut [bool])
+fn mark_words(base: &Base, words: PlainWords, check: &KeptCheck, marks: &mut [bool])
     requires rise { AreRising check.now.cites }
     requires places { HasPlaces base.now words check.now.cites (length marks.old) }
     ensures { (view : BaseView) → IsBase view base.now
@@ -69,7 +69,7 @@ fn mark_words(base: &Base, words: ProofWords, check: &KeptCheck, marks: &mut [bo
 }
 
 /// Whether one of the words that cite is this label.
-fn has_label(words: ProofWords, check: &KeptCheck, label: &[u8]) -> bool
+fn has_label(words: PlainWords, check: &KeptCheck, label: &[u8]) -> bool
     requires { AreRising check.now.cites }
     ensures { IsTrue result ↔ IsAmongCited words.entry check.now.cites (length check.now.cites) label.now }
 {

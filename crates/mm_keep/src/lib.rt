@@ -26,7 +26,7 @@ pub use laws::{
 pub use mm_proof::{
     Action, Base, BatchError, Checked, Checker, Cited, CodedSymbol, Decoding, Edit, EditError,
     Files, Frame, FrameFault, FrameNumber, Item, ItemKind, Keyword, Machine, Marks, NamedSymbol,
-    Names, NumberedSymbol, PieceKey, Place, ProofFault, ProofNumber, ProofStep, ProofWords,
+    Names, NumberedSymbol, PieceKey, Place, PlainWords, ProofFault, ProofNumber, ProofStep,
     Resolved, Spot, Statement, StoreError, Symbol, TextError, TextFault, TextNumber, Undecoded,
     Undo, Undos, Use, Verdict, Walk, Word, WordCursor, WordKind, Work, check,
     databases_are_read_so, databases_are_there, edits_keep_files, edits_keep_units,

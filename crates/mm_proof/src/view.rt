@@ -11,7 +11,7 @@ ghost use Rattle.mm_frame.specs.mm_statement.Language.Item as meant;
 
 use crate::marks::Marks;
 use mm_frame::{
-    Base, Files, Item, Names, ProofWords, Resolved, has_bytes, has_own_labels, kept_next,
+    Base, Files, Item, Names, PlainWords, Resolved, has_bytes, has_own_labels, kept_next,
     labels_mean, same_active_pairs, same_but_pairs, same_expression, same_frame, same_proof,
     words_of_proof,
 };
@@ -107,7 +107,7 @@ fn same_label(two: TwoTheorems, label: &[u8]) -> bool
 }
 
 /// Whether the labels of a list mean the same at both, up to the word that closes it.
-fn same_listed(two: TwoTheorems, words: ProofWords) -> bool
+fn same_listed(two: TwoTheorems, words: PlainWords) -> bool
     requires { AreMarked two }
     ensures { TellsLabels two.entry (before_first is_closing words.entry) result }
 {
@@ -124,7 +124,7 @@ fn same_listed(two: TwoTheorems, words: ProofWords) -> bool
 }
 
 /// Whether the words of a normal proof mean the same at both; a `?` always does.
-fn same_words(two: TwoTheorems, words: ProofWords) -> bool
+fn same_words(two: TwoTheorems, words: PlainWords) -> bool
     requires { AreMarked two }
     ensures { TellsLabels two.entry (filter is_label_word words.entry) result }
 {
@@ -138,7 +138,7 @@ fn same_words(two: TwoTheorems, words: ProofWords) -> bool
 }
 
 /// Whether the labels that these words of a proof name mean the same at both.
-fn same_named(two: TwoTheorems, words: ProofWords) -> bool
+fn same_named(two: TwoTheorems, words: PlainWords) -> bool
     requires { AreMarked two }
     ensures { TellsLabels two.entry (labels_named words.entry) result }
 {

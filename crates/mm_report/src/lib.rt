@@ -14,10 +14,10 @@ pub use laws::{clean_is_derived, one_report};
 pub use mm_keep::{
     Action, At, Base, BatchError, Checked, Checker, Cited, CodedSymbol, Decoding, Edit, EditError,
     Files, Finding, Frame, FrameFault, FrameNumber, Item, ItemKind, KeepError, Keyword, Machine,
-    Marks, NamedSymbol, Names, NumberedSymbol, PieceKey, Place, ProofFault, ProofNumber, ProofStep,
-    ProofWords, Resolved, Session, Spot, Statement, StoreError, Symbol, Tally, TextError,
-    TextFault, TextNumber, Unbegun, Undecoded, Undo, Undos, Use, Verdict, Walk, Word, WordCursor,
-    WordKind, Work, check, databases_are_read_so, edits_keep_units, fits, has_bytes,
+    Marks, NamedSymbol, Names, NumberedSymbol, PieceKey, Place, PlainWords, ProofFault,
+    ProofNumber, ProofStep, Resolved, Session, Spot, Statement, StoreError, Symbol, Tally,
+    TextError, TextFault, TextNumber, Unbegun, Undecoded, Undo, Undos, Use, Verdict, Walk, Word,
+    WordCursor, WordKind, Work, check, databases_are_read_so, edits_keep_units, fits, has_bytes,
     missing_are_named, names_are_taken, nth_of_proof, nth_word, place, same_proof,
     texts_are_read_so, walks_go_on, words_of_proof,
 };

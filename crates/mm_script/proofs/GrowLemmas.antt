@@ -15,10 +15,6 @@ grows_then a b c u v w p q = grind (arith, common_steps) steps 200000
 pub grown_long : (a b : Input) (u v : Option (List ℕ)) → InputGrows a b u v → length (pending a) ≤ length (pending b)
 grown_long a b u v p = omega (arith, ap length p.are, length-append (pending a) p.part)
 
--- what a list holds takes less than half of the memory
-pub few_pending : (input : Input) → length (pending input) < 9223372036854775808
-few_pending input = omega (arith, input.bytes.ok.0, input.bytes.ok.1, input.bytes.small, length-drop input.at input.bytes.items)
-
 -- a part of bytes that grow
 pub part_grown : (a b : Input) (u v : Option (List ℕ)) (i j : ℕ) → InputGrows a b u v → i ≤ j → j ≤ length (pending a) → slice_range (pending b) i j ≡ slice_range (pending a) i j
 part_grown a b u v i j p low within = grind (arith, common_steps, drop-append-le, length-drop, take-append-le) steps 200000

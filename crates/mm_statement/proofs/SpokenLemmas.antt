@@ -2,9 +2,9 @@
 use Rattle.std.proofs.lemmas.{Grind.{common_steps}, List.{drop-map, drop-drop, take-map, append-nil, length-drop, length-map, length-take}, Simd.{map-map}}
 use Rattle.std.proofs.Common.{◌≡◌, ℕ, zero, suc, ◌+◌, ◌<◌, ◌≤◌, Bool, true, false, cond, if◌then◌else◌, List, [], ◌∷◌, ◌++◌, Option, Some, None, length, map, take, drop, refl, sym, ◌∙◌, ap, subst}
 use Rattle.std.{proofs.Common.{arith, length-append}, specs.{Prelude.{slice_get, MatchOption}, Option.{option_map}, List.{AllByRecursion, flat_map, prefix_len}}}
-use Rattle.mm_store.specs.mm_text.{declared.word.{Word.{Word}, WordKind.TheVariants.{Plain}}, Language.{WordsLeft.{SkipsPlainWords}, Unit.{Token, token_of, tokens_of, spellings}}}
-use Rattle.mm_statement.specs.Language.{Item.{Kind, Said, is_labelled}, Statement.{is_plain_kind, is_plain, token_names, plain_from, symbols_from, symbols_in, item_of}}
-use Rattle.mm_statement.specs.Code.PlainWords.{AreFewWords, TakesLabel, word_bytes, plain_words, plain_bytes}
+use Rattle.mm_store.specs.mm_text.{declared.word.{Word.{Word}, WordKind.TheVariants.{Plain}}, Language.{WordsLeft.{WordsLeft, SkipsPlainWords}, Unit.{Token, token_of, tokens_of, spellings}}}
+use Rattle.mm_statement.specs.Language.{Item.{Kind, is_labelled}, Statement.{is_plain_kind, is_plain, token_names, plain_from, symbols_from, symbols_in}}
+use Rattle.mm_statement.specs.Code.PlainWords.{AreFewWords, AreWordsOf, TakesLabel, word_bytes, plain_words, plain_bytes}
 
 prefix_len-map : {X Y : Type 0} (f : X → Y) (p : Y → Bool) (xs : List X) → prefix_len p (map f xs) ≡ prefix_len (λ x. p (f x)) xs
 prefix_len-map f p [] = refl
@@ -34,19 +34,18 @@ pub record Symbols (words left symbols : List Word) : Type 0 where
 pub symbols_more : (words left new symbols : List Word) (word : Word) → Symbols words left symbols → left ≡ word ∷ new → is_plain_kind word.kind ≡ true → Symbols words new (symbols ++ word ∷ [])
 symbols_more words left new symbols word h e plain = grind (arith, common_steps, plain_more word new plain, length-append symbols (word ∷ []), drop-drop 1 (length symbols) words) steps 200000
 
--- all symbols, and the words after the one that closes them
-pub record AllSymbols (words new symbols : List Word) : Type 0 where
-  pub are : symbols ≡ plain_words words
-  pub rest : new ≡ drop (length (plain_words words) + 1) words
+-- the words after the one that closes the symbols
+abbrev IsBehind : List Word → List Word → Type 0
+IsBehind words new = new ≡ drop (length (plain_words words) + 1) words
 
-rest_is : (words left new symbols : List Word) → plain_words words ≡ symbols → left ≡ drop (length symbols) words → new ≡ drop 1 left → AllSymbols words new symbols
+rest_is : (words left new symbols : List Word) → plain_words words ≡ symbols → left ≡ drop (length symbols) words → new ≡ drop 1 left → IsBehind words new
 rest_is words left new symbols all behind e = grind (arith, common_steps, drop-drop 1 (length symbols) words) steps 200000
 
-pub symbols_closed : (words left new symbols : List Word) (word : Word) → Symbols words left symbols → left ≡ word ∷ new → is_plain_kind word.kind ≡ false → AllSymbols words new symbols
+pub symbols_closed : (words left new symbols : List Word) (word : Word) → Symbols words left symbols → left ≡ word ∷ new → is_plain_kind word.kind ≡ false → IsBehind words new
 symbols_closed words left new symbols word h e keyword = grind (arith, common_steps, plain_end word new keyword, append-nil symbols, rest_is) steps 200000
 
 -- no word is left
-pub symbols_ended : (words left new symbols : List Word) → Symbols words left symbols → left ≡ [] → new ≡ [] → AllSymbols words new symbols
+pub symbols_ended : (words left new symbols : List Word) → Symbols words left symbols → left ≡ [] → new ≡ [] → IsBehind words new
 symbols_ended words left new symbols h none e = grind (arith, common_steps, append-nil symbols, rest_is) steps 200000
 
 -- plain words are symbols
@@ -73,49 +72,28 @@ pub names_from : (text : List ℕ) (words : List Word) (from : ℕ) → token_na
 names_from text words from = ap (λ tokens. token_names (plain_from 0 tokens)) (drop-map (token_of text) from words) ∙ plain_names text (drop from words)
 
 -- the words after the label and the keyword
-behind_label : (labelled : Bool) (words new : List Word) (label : Option Word) → TakesLabel labelled words label new → drop 1 new ≡ drop (if labelled then 2 else 1) words
-behind_label true words new (Some word) h = sym (ap (drop 2) h)
-behind_label false words new None h = ap (drop 1) h
-behind_label _ words new _ h = absurd h
+pub behind_label : (labelled : Bool) (words behind first : List Word) (label : Option Word) → TakesLabel labelled words label behind → first ≡ drop 1 behind → first ≡ drop (if labelled then 2 else 1) words
+behind_label true words behind first (Some word) h e = e ∙ sym (ap (drop 2) h)
+behind_label false words behind first None h e = e ∙ ap (drop 1) h
+behind_label _ words behind first _ h e = absurd h
 
-label_is : (labelled : Bool) (text : List ℕ) (words new : List Word) (label : Option Word) → TakesLabel labelled words label new
+pub label_is : (labelled : Bool) (text : List ℕ) (words new : List Word) (label : Option Word) → TakesLabel labelled words label new
     → option_map (word_bytes text) label ≡ (if labelled then option_map (λ (token : Token). token.bytes) (slice_get (tokens_of text words) 0) else None)
 label_is true text words new (Some word) h = sym (ap (λ (ws : List Word). option_map (λ (token : Token). token.bytes) (slice_get (tokens_of text ws) 0)) h)
 label_is false text words new None h = refl
 label_is _ text words new _ h = absurd h
 
--- what is read of a statement with these words
-pub record Reads (kind : Kind) (words : List Word) (label : Option Word) (symbols rest : List Word) : Type 0 where
-  pub behind : List Word
-  pub takes : TakesLabel (is_labelled kind) words label behind
-  pub first : List Word
-  pub keyword : first ≡ drop 1 behind
-  pub all : AllSymbols first rest symbols
-
--- this is read if the symbols are passed over
-pub passed : (kind : Kind) (words : List Word) (label : Option Word) (behind first rest : List Word) → TakesLabel (is_labelled kind) words label behind → first ≡ drop 1 behind
-    → rest ≡ drop (length (plain_words first) + 1) first → Reads kind words label (plain_words first) rest
-passed kind words label behind first rest takes keyword after = record { behind = behind; takes = takes; first = first; keyword = keyword; all = record { are = refl; rest = after } }
-
--- the words of the proof, and what comes after them
-pub rest_at : (kind : Kind) (text : List ℕ) (words : List Word) (label : Option Word) (symbols rest : List Word) → Reads kind words label symbols rest
-    → (map (word_bytes text) symbols ≡ token_names (symbols_in kind (tokens_of text words))) × (rest ≡ drop (symbols_from kind + length (symbols_in kind (tokens_of text words)) + 1) words)
-rest_at kind text words label symbols rest h =
+-- the words behind the one that closes the symbols
+pub behind_closing : (kind : Kind) (text : List ℕ) (words behind first rest : List Word) (label : Option Word) → TakesLabel (is_labelled kind) words label behind → first ≡ drop 1 behind
+    → IsBehind first rest → rest ≡ drop (symbols_from kind + length (symbols_in kind (tokens_of text words)) + 1) words
+behind_closing kind text words behind first rest label takes keyword after =
     let from = symbols_from kind in
-    let first : h.first ≡ drop from words = h.keyword ∙ behind_label (is_labelled kind) words h.behind label h.takes in
-    let spelled : map (word_bytes text) symbols ≡ token_names (symbols_in kind (tokens_of text words)) = ap (map (word_bytes text)) h.all.are ∙ ap (plain_bytes text) first ∙ sym (names_from text words from) in
-    let count : length (plain_words h.first) ≡ length (symbols_in kind (tokens_of text words)) = ap length (sym h.all.are)
-    ∙ sym (length-map symbols (word_bytes text)) ∙ ap length spelled ∙ length-map (symbols_in kind (tokens_of text words)) (λ (token : Token). token.bytes)
-    in
-    let places : from + (length (plain_words h.first) + 1) ≡ from + length (symbols_in kind (tokens_of text words)) + 1 = omega (arith, count) in
-    (spelled, h.all.rest ∙ ap (drop (length (plain_words h.first) + 1)) first ∙ drop-drop (length (plain_words h.first) + 1) from words ∙ ap (λ k. drop k words) places)
-
-pub item_read : (kind : Kind) (text : List ℕ) (words : List Word) (label : Option Word) (symbols rest : List Word) → Reads kind words label symbols rest
-    → ◌≡◌ {A = Said} (record { kind = kind; label = option_map (word_bytes text) label; symbols = map (word_bytes text) symbols; proof = plain_bytes text rest }) (item_of kind (tokens_of text words))
-item_read kind text words label symbols rest h =
-    let labelled = label_is (is_labelled kind) text words h.behind label h.takes in
-    let proof = names_from text words (symbols_from kind + length (symbols_in kind (tokens_of text words)) + 1) in
-    grind (arith, common_steps, labelled, proof, rest_at kind text words label symbols rest h) steps 200000
+    let symbols = symbols_in kind (tokens_of text words) in
+    let at : first ≡ drop from words = behind_label (is_labelled kind) words behind first label takes keyword in
+    let spelled : plain_bytes text first ≡ token_names symbols = ap (plain_bytes text) at ∙ sym (names_from text words from) in
+    let count : length (plain_words first) ≡ length symbols = sym (length-map (plain_words first) (word_bytes text)) ∙ ap length spelled ∙ length-map symbols (λ (token : Token). token.bytes) in
+    let places : from + (length (plain_words first) + 1) ≡ from + length symbols + 1 = omega (arith, count) in
+    after ∙ ap (drop (length (plain_words first) + 1)) at ∙ drop-drop (length (plain_words first) + 1) from words ∙ ap (λ k. drop k words) places
 
 -- ---- how many words are left, and their bytes
 
@@ -159,37 +137,17 @@ module _ (text : List ℕ) (words : List Word) where
   pub proof_bytes : bytes_of (plain_bytes text words) ≤ bytes_of (spellings text words)
   proof_bytes = subst (λ names. bytes_of names ≤ bytes_of (spellings text words)) proof_spelled (bytes_before (prefix_len (λ (w : Word). is_plain_kind w.kind) words) (spellings text words))
 
--- the words that are left are the last of the words
-module _ (text : List ℕ) (kind : Kind) (words : List Word) (label : Option Word) (symbols rest : List Word) (h : Reads kind words label symbols rest) where
-  abbrev count : ℕ
-  count = symbols_from kind + (length (plain_words h.first) + 1)
-
-  rest_spelled : drop count (spellings text words) ≡ spellings text rest
-  rest_spelled = grind (arith, common_steps, behind_label, drop-drop, drop-map) steps 200000
-
-  pub rest_some : AreSome (spellings text words) → AreSome (spellings text rest)
-  rest_some all = subst AreSome rest_spelled (some_behind count (spellings text words) all)
-
-  pub rest_bytes : bytes_of (spellings text rest) ≤ bytes_of (spellings text words)
-  rest_bytes = subst (λ names. bytes_of names ≤ bytes_of (spellings text words)) rest_spelled (bytes_behind count (spellings text words))
-
-  pub rest_few : length symbols + length rest ≤ length words
-  rest_few = grind (arith, common_steps, behind_label, length-drop, length-take) steps 200000
-
 -- after the first word there are few
 pub few_more : (word : List ℕ) (words : List (List ℕ)) → AreFewWords (word ∷ words) → AreFewWords words
 few_more word words few = record { few = omega (arith, few.few); some = few.some.1; bytes = omega (arith, few.bytes, length-append word (flat_map (λ (w : List ℕ). w) words)) }
 
--- the symbols are few, too
-pub symbols_few : (kind : Kind) (text : List ℕ) (words behind first : List Word) (label : Option Word) → TakesLabel (is_labelled kind) words label behind → first ≡ drop 1 behind
-    → length words ≤ 4294967295 → AreSome (spellings text words) → bytes_of (spellings text words) ≤ 4294967295 → AreFewWords (plain_bytes text first)
-symbols_few kind text words behind first label takes keyword few some bytes =
-    let from = symbols_from kind in
-    let at : first ≡ drop from words = keyword ∙ behind_label (is_labelled kind) words behind label takes in
-    let spelled : drop from (spellings text words) ≡ spellings text first = grind (arith, common_steps, drop-map, at) steps 200000 in
-    let fewer = subst (λ names. bytes_of names ≤ bytes_of (spellings text words)) spelled (bytes_behind from (spellings text words)) in
+-- the words from some place on up to the next keyword are few, too
+pub few_from : (text : List ℕ) (all : WordsLeft) (rest : List Word) (n : ℕ) → AreWordsOf text all → rest ≡ drop n all.words → AreFewWords (plain_bytes text rest)
+few_from text all rest n h at =
+    let spelled : drop n (spellings text all.words) ≡ spellings text rest = grind (arith, common_steps, drop-map, at) steps 200000 in
+    let fewer = subst (λ names. bytes_of names ≤ bytes_of (spellings text all.words)) spelled (bytes_behind n (spellings text all.words)) in
     record {
-      few = omega (arith, proof_few text first, ap length at, length-drop from words, few);
-      some = proof_some text first (subst AreSome spelled (some_behind from (spellings text words) some));
-      bytes = omega (arith, proof_bytes text first, fewer, bytes);
+      few = omega (arith, proof_few text rest, ap length at, length-drop n all.words, h.few);
+      some = proof_some text rest (subst AreSome spelled (some_behind n (spellings text all.words) h.some));
+      bytes = omega (arith, proof_bytes text rest, fewer, h.bytes);
     }

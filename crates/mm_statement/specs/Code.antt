@@ -2,4 +2,4 @@
 pub mod Occurring
 pub mod PlainWords
 pub mod KeptStatement
-pub mod SpokenProof
+pub mod KeptWords

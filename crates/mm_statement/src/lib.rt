@@ -4,7 +4,6 @@
 mod examples;
 mod laws;
 mod plain_words;
-mod proof_words;
 mod statement;
 
 pub use examples::databases_are_read_so;
@@ -16,7 +15,7 @@ pub use mm_store::{
     Edit, Files, Item, ItemKind, Keyword, Place, TextError, TextFault, TextNumber, Word,
     WordCursor, WordKind, nth_word, place,
 };
-pub use proof_words::ProofWords;
+pub use plain_words::PlainWords;
 pub use statement::{
-    Head, Statement, has_bytes, head_of, is_same_range, nth_of_proof, same_proof, words_of_proof,
+    Statement, has_bytes, is_same_range, nth_of_proof, same_proof, words_of_proof,
 };

@@ -1,25 +1,20 @@
 //! What an item of the files says.
 
-ghost use Rattle.std.specs.Prelude.{◌≡◌, ◌≢◌, ◌↔◌, ◌+◌, ◌<◌, ◌≤◌, [], List, Some, false, None, All, IsTrue, IsFalse, IfOk, IfSome, OnOk, length, drop, is_some, slice_get, slice_index_or};
-ghost use Rattle.std.specs.{List.{AllByRecursion, flat_map}, Option.{option_map}};
-ghost use Rattle.mm_store.specs.{Language.FileFacts.{CanBeRead}, mm_text.{declared.word.Word.{Word}, Language.{Reading.{HasWords}, Unit.{tokens_of}}}};
+ghost use Rattle.std.specs.{Prelude.{◌≡◌, ◌≢◌, ◌↔◌, ◌+◌, ◌<◌, ◌≤◌, false, None, IsTrue, IsFalse, IfSome, length, drop, is_some, slice_get}, List.{AllByRecursion}, Option.{option_map}};
+ghost use Rattle.mm_store.specs.{Language.FileFacts.{CanBeRead}, mm_text.Language.Unit.{tokens_of}};
 ghost use Rattle.mm_statement.specs.{Language.{Item.{first_symbol}, Statement.{AreOneRange, HasBytes, Says}}, Code.Occurring.{OccurIn}};
 ghost use Rattle.mm_statement.specs.Code.PlainWords.{AreWordsOf, LiesInText, TakesLabel, plain_words, word_bytes};
 ghost use Rattle.mm_statement.specs.Language.Item as meant;
 ghost use Rattle.mm_statement.specs.Language.Statement as spoken;
 
 use crate::laws::one_range_says_one;
-use crate::plain_words::{bytes_of, is_plain};
-use crate::proof_words::ProofWords;
+use crate::plain_words::{PlainWords, bytes_of, is_plain};
 use memchr::memmem;
-use mm_store::{Files, Item, ItemKind, Word, WordCursor, nth_word};
-use std::alloc::{AllocError, Global};
+use mm_store::{Files, Item, ItemKind, Word, WordCursor};
 use std::marker::Model;
 
-/// A statement or another item of the files: its kind, its label, its symbols, and the words of its proof.
-///
-/// The words are slices of the text of the item's piece; nothing is copied. The symbols are read once and kept, or else read
-/// when they are asked for. The words of the proof are never kept.
+/// A statement or another item of the files, of which the kind and the label are at hand. Neither its symbols nor the words of
+/// its proof are kept: they are words of the text of the item's piece.
 #[derive(Drop)]
 pub struct Statement<'a> {
     kind: ItemKind,
@@ -27,10 +22,6 @@ pub struct Statement<'a> {
     label: Option<&'a [u8]>,
     /// All words, from the first one on.
     words: WordCursor<'a>,
-    /// How many symbols there are.
-    count: usize,
-    /// The symbols; none if they are not kept.
-    symbols: Vec<Word>,
 }
 
 impl<'a> Model for Statement<'a> {
@@ -50,15 +41,6 @@ fn is_labelled(kind: ItemKind) -> bool
         kind,
         ItemKind::Floating | ItemKind::Essential | ItemKind::Axiom | ItemKind::Theorem
     )
-}
-
-/// Whether an item is the beginning or the end of a block, and has too few bytes for more than one word: so it has no symbol.
-fn is_short_mark(item: &Item) -> bool
-    ensures unlabelled { IsTrue result → meant.is_labelled (spoken.kind_of item.now.kind) ≡ false }
-    ensures short { IsTrue result → item.now.end ≤ item.now.start + 2 }
-{
-    matches!(item.kind, ItemKind::BlockStart | ItemKind::BlockEnd)
-        && item.end.saturating_sub(item.start) <= 2
 }
 
 /// The place of the first symbol among the words.
@@ -105,85 +87,32 @@ fn label_bytes(text: &[u8], label: Option<Word>) -> Option<&[u8]>
     }
 }
 
-/// More symbols than most statements have.
-const USUAL_COUNT: usize = 32;
-
-/// For how many symbols of an item of this kind there is room from the first on.
-fn usual_count(kind: ItemKind) -> usize {
-    match kind {
-        ItemKind::BlockStart | ItemKind::BlockEnd => 0,
-        _ => USUAL_COUNT,
-    }
-}
-
-/// The words before the next keyword; it is read, too. There is room for this many from the first on.
-fn read_symbols(alloc: Global, words: &mut WordCursor, room: usize) -> Result<Vec<Word>, AllocError>
-    ensures text { words.new.text ≡ words.old.text }
-    ensures symbols { IfOk result (λ symbols. symbols.items ≡ plain_words words.old.words) }
-    ensures rest { OnOk result (words.new.words ≡ drop (length (plain_words words.old.words) + 1) words.old.words) }
-    ensures within { IfOk result (λ symbols. All (LiesInText words.old.text) symbols.items) }
-{
-    let mut symbols = Vec::with_capacity(alloc, room)?;
-    while let Some(word) = words.next_word() {
-        if !is_plain(word.kind) {
-            return Ok(symbols);
-        }
-        symbols.push(word)?;
-    }
-    Ok(symbols)
-}
-
 impl<'a> Statement<'a> {
-    /// What an item of the files says. The item's bytes are read up to its proof; those of a lone `${` or `$}` are not looked
-    /// at.
-    pub fn read(alloc: Global, files: &'a Files, item: &Item) -> Result<Self, AllocError>
+    /// What an item of the files says, and its symbols, one after another, which are read when they are gone through. The bytes
+    /// of the item are read up to its keyword. It takes no memory.
+    pub fn read(files: &'a Files, item: &Item) -> (Self, PlainWords<'a>)
         requires { CanBeRead files.now item.now }
-        ensures says { IfOk result (Says files.now item.now) }
-        ensures only { IfOk result (λ read. (said : meant.Said) → Says files.now item.now said → read ≡ said) }
+        ensures says { Says files.now item.now result.0 }
+        ensures only { (said : meant.Said) → Says files.now item.now said → result.0 ≡ said }
+        ensures symbols { result.1 ≡ result.0.symbols }
     {
-        if is_short_mark(item) {
-            return Ok(Statement::known(alloc, files, item, None, 0));
-        }
         let (text, words) = words_of(files, item);
-        Ok(Statement::new(alloc, item.kind, text, words)?)
-    }
-
-    /// The statement of this kind that has these words.
-    fn new(
-        alloc: Global,
-        kind: ItemKind,
-        text: &'a [u8],
-        words: WordCursor<'a>,
-    ) -> Result<Self, AllocError>
-        requires { AreWordsOf text.now words }
-        ensures { IfOk result (λ new. new ≡ spoken.item_of (spoken.kind_of kind) (tokens_of text.now words.entry.words)) }
-    {
         let mut first = words.again();
-        let label = read_label(kind, &mut first);
-        let _keyword = first.next_word();
-        let symbols = read_symbols(alloc, &mut first, usual_count(kind))?;
-        Ok(Statement {
-            kind,
+        let label = read_label(item.kind, &mut first);
+        first.next_word();
+        let statement = Statement {
+            kind: item.kind,
             text,
             label: label_bytes(text, label),
             words,
-            count: symbols.len(),
-            symbols,
-        })
+        };
+        (statement, PlainWords::new(text, first))
     }
 
-    /// What an item of the files says that is known to have this label and this many symbols. Nothing is read, and no memory
-    /// is taken.
-    pub fn known(
-        alloc: Global,
-        files: &'a Files,
-        item: &Item,
-        label: Option<&'a [u8]>,
-        count: usize,
-    ) -> Self
+    /// What an item of the files says that is known to have this label. Nothing is read, and no memory is taken.
+    pub fn known(files: &'a Files, item: &Item, label: Option<&'a [u8]>) -> Self
         requires read { CanBeRead files.now item.now }
         requires label { (said : meant.Said) → Says files.now item.now said → option_map (λ label. label.now) label ≡ said.label }
-        requires count { (said : meant.Said) → Says files.now item.now said → count ≡ length said.symbols }
         ensures says { Says files.now item.now result }
         ensures only { (said : meant.Said) → Says files.now item.now said → result ≡ said }
     {
@@ -193,8 +122,6 @@ impl<'a> Statement<'a> {
             text,
             label,
             words,
-            count,
-            symbols: Vec::new(alloc),
         }
     }
 
@@ -214,24 +141,6 @@ impl<'a> Statement<'a> {
         self.label
     }
 
-    /// How many symbols there are.
-    pub fn symbol_count(&self) -> usize
-        ensures { result ≡ length self.now.symbols }
-    {
-        self.count
-    }
-
-    /// The n-th symbol, counted from 0.
-    pub fn symbol(&self, n: usize) -> &'a [u8]
-        requires { n < length self.now.symbols }
-        ensures { result.now ≡ slice_index_or self.now.symbols n [] }
-    {
-        match self.symbols.get(n) {
-            Some(word) => bytes_of(self.text, *word),
-            None => nth_bytes(self.text, symbols_from(self.kind) + n),
-        }
-    }
-
     /// The place of the n-th symbol, counted from 0, among all words of the statement, which are counted from 0 as
     /// well, the label being the first. If n is the count of symbols, it is the place of the `$.` or `$=` after
     /// them.
@@ -241,64 +150,16 @@ impl<'a> Statement<'a> {
     {
         symbols_from(self.kind) + n
     }
-
-    /// The words of the proof, from the first one on: at most 4,294,967,295, and none if there is no proof. Each has a
-    /// byte at least, and together they have at most 4,294,967,295. It takes no memory.
-    pub fn proof(&self) -> ProofWords<'a>
-        ensures words { result ≡ self.now.proof }
-        ensures few { length result ≤ 4294967295 }
-        ensures some { AllByRecursion (λ word. 0 < length word) result }
-        ensures bytes { length (flat_map (λ word. word) result) ≤ 4294967295 }
-    {
-        proof_among(self.kind, self.text, self.words.again())
-    }
-}
-
-/// The label of a statement, if it has one, and its symbols.
-#[derive(Drop)]
-pub struct Head<'a> {
-    pub label: Option<&'a [u8]>,
-    /// The symbols, one after another.
-    pub symbols: ProofWords<'a>,
-}
-
-/// The label of an item, if it has one, and its symbols, which are read when they are gone through. The bytes of the item are
-/// read up to its keyword. It takes no memory.
-pub fn head_of<'a>(files: &'a Files, item: &Item) -> Head<'a>
-    requires { CanBeRead files.now item.now }
-    ensures label { (said : meant.Said) → Says files.now item.now said → option_map (λ label. label.now) result.label ≡ said.label }
-    ensures symbols { (said : meant.Said) → Says files.now item.now said → result.symbols ≡ said.symbols }
-{
-    let (text, words) = words_of(files, item);
-    let mut words = words;
-    let label = read_label(item.kind, &mut words);
-    words.next_word();
-    Head {
-        label: label_bytes(text, label),
-        symbols: ProofWords::new(text, words),
-    }
 }
 
 /// The words of the proof of an item, from the first one on; none if it has no proof. The item's bytes are read up to
 /// its proof. It takes no memory.
-pub fn words_of_proof<'a>(files: &'a Files, item: &Item) -> ProofWords<'a>
+pub fn words_of_proof<'a>(files: &'a Files, item: &Item) -> PlainWords<'a>
     requires { CanBeRead files.now item.now }
     ensures words { (said : meant.Said) → Says files.now item.now said → result ≡ said.proof }
 {
     let (text, words) = words_of(files, item);
-    proof_among(item.kind, text, words)
-}
-
-/// The words of the proof of a statement of this kind that has these words.
-fn proof_among<'a>(kind: ItemKind, text: &'a [u8], words: WordCursor<'a>) -> ProofWords<'a>
-    requires { AreWordsOf text.now words }
-    ensures { result ≡ (spoken.item_of (spoken.kind_of kind) (tokens_of text.now words.entry.words)).proof }
-{
-    let mut words = words;
-    read_label(kind, &mut words);
-    words.next_word();
-    pass_symbols(&mut words);
-    ProofWords::new(text, words)
+    PlainWords::new(text, behind_symbols(item.kind, words))
 }
 
 /// The n-th word of the proof of an item, counted from 0, by its bytes among those of the item; if n is the count of
@@ -310,7 +171,7 @@ pub fn nth_of_proof(files: &Files, item: &Item, n: usize) -> Option<Word>
 {
     let bytes = files.piece(item.key);
     let text = &bytes[item.start..item.end];
-    let mut words = behind_symbols(item.kind, text);
+    let mut words = behind_symbols(item.kind, WordCursor::new(text));
     for _number in 0..n {
         words.next_word()?;
     }
@@ -318,29 +179,17 @@ pub fn nth_of_proof(files: &Files, item: &Item, n: usize) -> Option<Word>
 }
 
 /// The words of an item of this kind after the one that closes its symbols.
-fn behind_symbols<'a>(kind: ItemKind, text: &'a [u8]) -> WordCursor<'a>
-    requires { (words : List Word) × HasWords text.now words × (0 < length words) }
-    ensures text { result.text ≡ text.now }
-    ensures rest { (words : List Word) → HasWords text.now words
-        → result.words ≡ drop (spoken.symbols_from (spoken.kind_of kind)
-        + length (spoken.symbols_in (spoken.kind_of kind) (tokens_of text.now words)) + 1) words }
+fn behind_symbols<'a>(kind: ItemKind, words: WordCursor<'a>) -> WordCursor<'a>
+    requires { 0 < length words.words }
+    ensures text { result.text ≡ words.entry.text }
+    ensures rest { result.words ≡ drop (spoken.symbols_from (spoken.kind_of kind)
+        + length (spoken.symbols_in (spoken.kind_of kind) (tokens_of words.entry.text words.entry.words)) + 1) words.entry.words }
 {
-    let mut cursor = WordCursor::new(text);
-    read_label(kind, &mut cursor);
-    cursor.next_word();
-    pass_symbols(&mut cursor);
-    cursor
-}
-
-/// The bytes of the n-th word of a text, which has more words.
-fn nth_bytes(text: &[u8], n: usize) -> &[u8]
-    requires { (words : List Word) × HasWords text.now words × (n < length words) }
-    ensures { (words : List Word) (word : Word) → HasWords text.now words → slice_get words n ≡ Some word → result.now ≡ word_bytes text.now word }
-{
-    match nth_word(text, n) {
-        Some(word) => bytes_of(text, word),
-        None => b"",
-    }
+    let mut words = words;
+    read_label(kind, &mut words);
+    words.next_word();
+    pass_symbols(&mut words);
+    words
 }
 
 /// Goes past the next keyword. Most often its `$` is the next one, and the words before it are not looked at.
@@ -406,7 +255,7 @@ pub fn is_same_range(one: &Item, other: &Item) -> bool
 }
 
 /// Whether the words that are left are the same.
-fn same_words(one: ProofWords, other: ProofWords) -> bool
+fn same_words(one: PlainWords, other: PlainWords) -> bool
     ensures { IsTrue result ↔ (one.entry ≡ other.entry) }
 {
     let mut one = one;

@@ -1,6 +1,6 @@
 -- Where the words of a text are, and which bytes a text has.
-use Rattle.std.proofs.Common.{[], ◌≡◌, ℕ, ◌+◌, ◌<◌, ◌≤◌, Bool, true, false, not, ◌&&◌, List, ◌∷◌, ◌++◌, append_assoc, length, get_or, Option, Some, None, IfSome, Result, length-append, nat_le}
-use Rattle.std.proofs.{Common.{slice_range, slice_get, IfErr, All, AllPairs, refl, sym, ap, ◌∙◌, subst, arith}, lemmas.Grind.{common_steps}}
+use Rattle.std.proofs.Common.{[], ◌≡◌, ℕ, ◌+◌, ◌<◌, ◌≤◌, Bool, true, false, not, ◌&&◌, List, ◌∷◌, ◌++◌, append_assoc, length, get_or, Some, None, Result, length-append, nat_le, slice_range, slice_get}
+use Rattle.std.proofs.{Common.{IfErr, All, AllPairs, refl, sym, ap, ◌∙◌, subst, arith}, lemmas.Grind.{common_steps}}
 use Rattle.std.proofs.lemmas.{Bool.{cases_Bool, false≢true, or_cases, and_parts, leb-true, ltb-false, not-false}, Option.{slice_get_within, get_or_from_slice_get}, List.Elements.{All-nil, All-cons}}
 use Rattle.std.{proofs.lemmas.List.{Kept.{AllPairs-cons}, Quantifiers.{position-Some}, Sums.{fails_before_first}}, specs.List.{flat_map, AllByRecursion, position}}
 use Rattle.mm_text.specs.declared.{word.Word.{Word}, fault.{TextFault.{TextFault}, TextError.{TextError}, TextNumber.{TextNumber, TheVariants.{T01, T02, T03, T04, T05, T07, T08}}}}
@@ -109,11 +109,6 @@ none_found test bytes e k d lt = grind (arith, common_steps, cases_Bool, fails_b
 -- a text without a bad byte has only bytes below 127
 pub all_below : (text : List ℕ) → first_bad text ≡ None → All (λ b. b < 127) text
 all_below text e k d lt = allowed_below (get_or text k d) (not-false (is_allowed (get_or text k d)) (none_found (λ b. not (is_allowed b)) text e k d lt))
-
--- the n-th word of a text is in it
-pub nth_lies : (text : List ℕ) (words : List Word) (n : ℕ) (found : Option Word) → HasWords text words → found ≡ slice_get words n → IfSome found (LiesIn text)
-nth_lies text words n None h is = tt
-nth_lies text words n (Some word) h is = subst (LiesIn text) (get_or_from_slice_get words n word word (sym is)) ((are_within text words h).each n word (slice_get_within words n word (sym is)))
 
 -- ---- faults
 

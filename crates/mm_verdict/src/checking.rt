@@ -16,7 +16,7 @@ use crate::known::Known;
 use crate::reading::{DecodedProof, decode};
 use crate::undecoded::Undecoded;
 use crate::work::{Checked, Work};
-use mm_frame::{Base, Files, Names, ProofWords, Resolved, places_have_frames, words_of_proof};
+use mm_frame::{Base, Files, Names, PlainWords, Resolved, places_have_frames, words_of_proof};
 use mm_machine::{
     Active, ProofFault, ProofNumber, RunOutcome, Spot, Verdict, numbers_keep_places,
     numbers_say_the_same, run,
@@ -35,7 +35,7 @@ fn decoding_fault(error: Undecoded) -> Result<ProofFault, AllocError>
 }
 
 /// The spot after the words of a proof.
-fn closing_spot(words: ProofWords) -> Spot
+fn closing_spot(words: PlainWords) -> Spot
     requires { length words ≤ 4294967295 }
     ensures { result ≡ word_spot (length words.entry) }
 {
@@ -48,7 +48,7 @@ fn closing_spot(words: ProofWords) -> Spot
 }
 
 /// The verdict on a proof with these words, by what the run of its steps came to.
-pub fn verdict(outcome: RunOutcome, decoding: &Decoding, words: ProofWords) -> Verdict
+pub fn verdict(outcome: RunOutcome, decoding: &Decoding, words: PlainWords) -> Verdict
     requires within { IsOutcomeWithin (length decoding.now.steps.items) outcome }
     requires few { length words ≤ 4294967295 }
     ensures { (view : BaseView) (place : Setting) (statement : List Symbol)
@@ -134,7 +134,7 @@ fn judge<'b, 'a>(
     known: &mut Known<'b>,
     base: &'b Base,
     i: usize,
-    proof: &'a ProofWords<'a>,
+    proof: &'a PlainWords<'a>,
 ) -> Result<(Checked, u64), AllocError>
     requires proof { HasProof base.now i proof.now }
     requires known { AreKnownOf base.now known.old }
@@ -214,7 +214,7 @@ impl Checker<'_> {
         &mut self,
         alloc: Global,
         i: usize,
-        proof: &ProofWords,
+        proof: &PlainWords,
     ) -> Result<(Checked, u64), AllocError>
         requires { HasProof self.old i proof.now }
         ensures base { self.new ≡ self.old }

@@ -8,7 +8,7 @@ ghost use Rattle.mm_verdict.specs.declared.undecoded.Undecoded.TheVariants as er
 
 use crate::undecoded::Undecoded;
 use crate::words::is_close;
-use mm_frame::{Base, ProofWords, Resolved};
+use mm_frame::{Base, PlainWords, Resolved};
 use mm_machine::{ProofFault, ProofNumber, Spot};
 
 /// A fault at a word.
@@ -41,7 +41,7 @@ pub fn read_label(base: &Base, i: usize, label: &[u8], n: usize) -> Result<Resol
 pub fn read_list(
     base: &Base,
     i: usize,
-    words: &mut ProofWords,
+    words: &mut PlainWords,
     labels: &mut Vec<Resolved>,
 ) -> Result<usize, Undecoded>
     requires { length words.old ≤ 4294967295 }

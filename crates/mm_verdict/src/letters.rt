@@ -7,7 +7,7 @@ ghost use Rattle.mm_verdict.specs.Language.Numbers as numbers;
 
 use crate::undecoded::Undecoded;
 use crate::used::mark;
-use mm_frame::ProofWords;
+use mm_frame::PlainWords;
 use mm_machine::{Action, ProofFault, ProofNumber, ProofStep, Spot};
 use std::alloc::AllocError;
 
@@ -228,7 +228,7 @@ impl LetterReader {
 #[inline(never)]
 pub fn read_letters(
     room: MarkedSteps,
-    words: &mut ProofWords,
+    words: &mut PlainWords,
     from: usize,
     labels: usize,
 ) -> Result<MarkedSteps, Undecoded>

@@ -38,7 +38,7 @@ pub use item_laws::{
 pub use known::Known;
 pub use mm_frame::{
     Base, BatchError, Edit, EditError, Files, Item, ItemKind, Keyword, NamedSymbol, Names,
-    PieceKey, Place, ProofWords, Resolved, Statement, StoreError, Symbol, TextError, TextFault,
+    PieceKey, Place, PlainWords, Resolved, Statement, StoreError, Symbol, TextError, TextFault,
     TextNumber, Undo, Undos, Walk, Word, WordCursor, WordKind, fits, has_bytes, nth_of_proof,
     nth_word, place, same_proof, words_of_proof,
 };

@@ -14,7 +14,7 @@ use crate::letters::{MarkedSteps, read_letters};
 use crate::undecoded::Undecoded;
 use crate::used::mark;
 use crate::words::{is_open, is_unknown};
-use mm_frame::{Base, ProofWords, Resolved};
+use mm_frame::{Base, PlainWords, Resolved};
 use mm_machine::{Action, ProofStep, Spot};
 use std::alloc::AllocError;
 
@@ -23,7 +23,7 @@ use std::alloc::AllocError;
 pub struct DecodedProof<'b, 'a> {
     pub base: &'b Base,
     pub i: usize,
-    pub words: &'a ProofWords<'a>,
+    pub words: &'a PlainWords<'a>,
     pub decoding: &'a Decoding,
 }
 
@@ -52,7 +52,7 @@ pub fn mandatory(base: &Base, i: usize) -> &[usize]
 fn decode_compressed(
     base: &Base,
     i: usize,
-    proof: &ProofWords,
+    proof: &PlainWords,
     room: Decoding,
 ) -> Result<Decoding, Undecoded>
     requires proof { HasProof base.now i proof.now }
@@ -103,7 +103,7 @@ fn read_word(base: &Base, i: usize, word: &[u8], n: usize) -> Result<(Resolved, 
 fn decode_normal(
     base: &Base,
     i: usize,
-    proof: &ProofWords,
+    proof: &PlainWords,
     room: Decoding,
 ) -> Result<Decoding, Undecoded>
     requires { is_compressed_lem proof.now ≡ false }
@@ -139,7 +139,7 @@ fn decode_normal(
 }
 
 /// Whether the words of a proof are those of a compressed one: the first is a `(`.
-pub fn is_compressed(proof: &ProofWords) -> bool
+pub fn is_compressed(proof: &PlainWords) -> bool
     ensures { result ≡ is_compressed_lem proof.now }
 {
     let mut words = proof.again();
@@ -156,7 +156,7 @@ pub fn is_compressed(proof: &ProofWords) -> bool
 pub fn decode(
     base: &Base,
     i: usize,
-    proof: &ProofWords,
+    proof: &PlainWords,
     room: Decoding,
 ) -> Result<Decoding, Undecoded>
     requires { HasProof base.now i proof.now }

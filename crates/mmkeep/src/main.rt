@@ -23,11 +23,11 @@ pub use loading::load_session;
 pub use mm_report::{
     Action, At, Base, BatchError, Checked, Checker, Cited, CodedSymbol, Decoding, Edit, EditError,
     Files, Finding, Frame, FrameFault, FrameNumber, Item, ItemKind, KeepError, Keyword, Machine,
-    Marks, NamedSymbol, Names, NumberedSymbol, PieceKey, Place, ProofFault, ProofNumber, ProofStep,
-    ProofWords, ReadFailed, Reading, Resolved, ScriptError, Session, Spot, Statement, StoreError,
-    Symbol, Tally, TextError, TextFault, TextNumber, Unbegun, Undecoded, Undo, Undos, Use, Verdict,
-    Walk, Word, WordCursor, WordKind, Work, WriteFailed, Writing, check, fits, has_bytes,
-    nth_of_proof, nth_word, place, same_proof, words_of_proof,
+    Marks, NamedSymbol, Names, NumberedSymbol, PieceKey, Place, PlainWords, ProofFault,
+    ProofNumber, ProofStep, ReadFailed, Reading, Resolved, ScriptError, Session, Spot, Statement,
+    StoreError, Symbol, Tally, TextError, TextFault, TextNumber, Unbegun, Undecoded, Undo, Undos,
+    Use, Verdict, Walk, Word, WordCursor, WordKind, Work, WriteFailed, Writing, check, fits,
+    has_bytes, nth_of_proof, nth_word, place, same_proof, words_of_proof,
 };
 pub use outcome::{Outcome, status};
 pub use performing::{judge, perform};

@@ -3,7 +3,8 @@
 ghost use Rattle.std.specs.Prelude.{All};
 ghost use Rattle.mm_report.specs.mm_store.Language.FileFacts.{CanBeRead, StandsIn};
 
-use mm_report::{Base, Files, Item, Names, Place, Statement, StoreError, Walk, fits, place};
+use mm_frame::words_of_proof;
+use mm_report::{Base, Files, Item, Names, Place, StoreError, Walk, fits, place};
 use std::alloc::{AllocError, Global};
 use std::mem;
 
@@ -53,14 +54,11 @@ fn has_hypotheses(alloc: Global, files: &Files) -> bool {
 }
 
 /// Whether a statement has a proof of one word.
-fn has_one_word(alloc: Global, files: &Files, item: &Item) -> Result<bool, AllocError>
+fn has_one_word(files: &Files, item: &Item) -> bool
     requires { CanBeRead files.now item.now }
 {
-    let statement = Statement::read(alloc, files, item)?;
-    let mut proof = statement.proof();
-    let one = proof.next_word().is_some() && proof.next_word().is_none();
-    mem::forget(statement);
-    Ok(one)
+    let mut proof = words_of_proof(files, item);
+    proof.next_word().is_some() && proof.next_word().is_none()
 }
 
 /// Where an item begins in the text of its file.
@@ -86,10 +84,10 @@ fn begin_so(files: &Files, items: &[Item]) -> bool
 }
 
 /// Whether the items have their places, and the last one a proof of one word.
-fn have_places(alloc: Global, files: &Files) -> Result<bool, StoreError> {
+fn have_places(files: &Files) -> Result<bool, StoreError> {
     let items = files.statements(NAME)?;
     let placed = match items.last() {
-        Some(item) => { begin_so(files, &items) && has_one_word(alloc, files, item) == Ok(true) }
+        Some(item) => { begin_so(files, &items) && has_one_word(files, item) }
         None => false,
     };
     mem::forget(items);
@@ -101,7 +99,7 @@ fn a_base_and_its_items_have_their_places(rt: HostRuntime) {
     let mut files = Files::new(rt.alloc());
     let added = files.add(NAME, LOGIC).is_ok();
     let framed = has_hypotheses(rt.alloc(), &files);
-    let placed = have_places(rt.alloc(), &files);
+    let placed = have_places(&files);
     mem::forget(files);
     assert!(rt; added && framed && placed == Ok(true));
 }

@@ -2,7 +2,6 @@
 use Rattle.std.specs.Prelude.{◌≡◌, ◌≢◌, ℕ, ◌+◌, ◌-◌, ◌*◌, ◌≤◌, ◌<◌, Bool, true, false, ◌⊎◌, ◌↔◌, Option, Some, None, List, [], ◌∷◌, ◌++◌, length, map, take, drop, slice_get}
 use Rattle.std.specs.{Prelude.{Contains, All, Any, slice_index_or}, Int.{bit_at}}
 use Rattle.mm_machine.specs.Language.Frame.{Symbol, Mandatory, ArePair, HasVariable}
-use Rattle.mm_machine.specs.Language.Typing.{IsTyped}
 use Rattle.mm_machine.specs.Language.Derivation.{AreApart, ShareVariable}
 use Rattle.mm_machine.specs.Language.Faults.{LackPair}
 use Rattle.mm_machine.specs.declared.ProofNumber.{ProofNumber}
@@ -155,10 +154,6 @@ PairsSay active given pairs (Some P10) = Any (λ pair. ShareVariable (given pair
 PairsSay active given pairs (Some P11) = (Any (λ pair. ShareVariable (given pair.0) (given pair.1)) pairs →
     ⊥) × Any (λ pair. LackPair active (given pair.0) (given pair.1)) pairs
 PairsSay active given pairs _ = ⊥
-
--- each variable of each pair has a `$f`
-abbrev pub AreTypedPairs : List Mandatory → List (Symbol × Symbol) → Type 0
-AreTypedPairs hs pairs = All (λ p. IsTyped hs p.0 × IsTyped hs p.1) pairs
 
 -- the slots of the pairs are among this many
 abbrev pub AreSlotPairs : ℕ → List SlotPair → Type 0

@@ -1,4 +1,4 @@
-use Rattle.std.proofs.{Common.{arith, ap, ◌∙◌, subst}, lemmas.Grind.{common_steps}}
+use Rattle.std.proofs.{Common.{arith, ap, sym, ◌∙◌, subst}, lemmas.Grind.{common_steps}}
 use Rattle.mm_statement.specs.Language.Item.{Said, is_read}
 use Rattle.mm_frame.{specs.{Language.Base.{before, said_at}, Code.{KnownItem.{numbers_of}, Numbers.{AreNameNumbers}}}, proofs.lemmas.frames.FrameNumbers.{kind_at}}
 use Rattle.mm_frame.proofs.lemmas.reading.KnownItems.{same_again, numbers_known}
@@ -13,7 +13,7 @@ returns-in-Some-clause-known c names files base by each =
       label = λ said says. c.label.ensures base (names, by) ∙ ap (λ (x : Said). x.label) (same said says);
       symbols = λ said says.
           let kind = ap (λ (x : Said). is_read x.kind) (same said says ∙ says.is) in
-          let told = c.in-Some.ensures.symbols names base by (kind ∙ c.needs_no_names.ensures c.if-not-needs_no_names.false) in
+          let told = c.in-Some.ensures.symbols names base by (kind ∙ sym c.keeps_symbols.ensures ∙ c.if-not-keeps_symbols.false) in
           let numbers = numbers_known names (before base i) (said_at base i).symbols c.in-Some.symbols.now told (c.in-Some.ensures.numbered names base by) in
           subst (λ (x : Said). AreNameNumbers names (numbers_of c.in-Some.symbols.now) x.symbols) (same said says) numbers;
     }
@@ -21,4 +21,4 @@ returns-in-Some-clause-known c names files base by each =
 pub returns-in-Some-clause-sound : goal.returns-in-Some-clause-sound
 returns-in-Some-clause-sound c names base by =
     let again = c.is_again.ensures c.if-not-is_again.false in
-    grind (arith, common_steps, kind_at, c.needs_no_names.ensures, c.in-Some.ensures.sound, c.in-Some.ensures.symbols, c.in-Some.ensures.numbered) steps 200000
+    grind (arith, common_steps, kind_at, sym c.keeps_symbols.ensures ∙ c.if-not-keeps_symbols.false, c.in-Some.ensures.sound, c.in-Some.ensures.symbols, c.in-Some.ensures.numbered) steps 200000

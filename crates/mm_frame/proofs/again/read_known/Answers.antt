@@ -35,8 +35,5 @@ returns c =
     ))
     c.add_numbered.ensures
 
-pub known-statement-requires-clause-count : goal.known-statement-requires-clause-count
-known-statement-requires-clause-count c = grind (arith, elements)
-
 pub take_known-requires : goal.take_known-requires
 take_known-requires c = grind (arith, elements)

@@ -1,23 +1,33 @@
-use Rattle.std.proofs.{Common.{◌+◌, take_all, subst, arith}, lemmas.List.{length_push}}
-use Rattle.mm_frame.{specs.Code.Numbers.{AreNameNumbers}, proofs.lemmas.{names.NumberLemmas.{begins_on}, base.BaseLemmas.{numbers_more}}}
+use Rattle.std.proofs.{Common.{◌∙◌, ◌∷◌, ◌++◌, [], ap, append-nil, append_assoc, arith, length, sym, subst}, lemmas.List.{length_push}}
+use Rattle.mm_frame.{specs.Code.Numbers.{AreNameNumbers}, proofs.lemmas.{names.NumberLemmas.{begins_on}, base.BaseLemmas.{numbers_push}}}
 use Rattle.mm_frame.proofs.draft.number_all.Goals as goal
 
-pub loop-n-preserved : goal.loop-n-preserved
-loop-n-preserved c =
-    let inv = c.loop-n.invariant in
-    let symbols = c.args.statement.now.symbols in
-    let items = c.loop-n.numbers.items in
-    let long = length_push items c.in_ok-number.number in
-    rw (c.in_ok-push.ensures.items) (
-      begins_on _ _ _ inv.0 c.intern.ensures.grows,
-      omega arith,
-      λ all more. numbers_more all items symbols c.loop-n.n (c.loop-n.n + 1) c.in_ok-number.number c.symbol.result.now (omega arith) (omega arith) c.symbol.ensures
-          (inv.2 all (begins_on _ _ _ c.intern.ensures.grows more)) (more c.in_ok-number.number c.symbol.result.now c.in_ok-number.ensures.named),
-    )
+pub loop-symbol-preserved : goal.loop-symbol-preserved
+loop-symbol-preserved c =
+    let was = c.loop-symbol.invariant in
+    let done = was.done in
+    let word = c.in-Some.symbol.now in
+    let number = c.in_ok-number.number in
+    let items = c.loop-symbol.numbers.items in
+    let more = done.0 ++ word ∷ [] in
+    let grown = ap length c.in_ok-push.ensures.items in
+    record {
+      grows = begins_on _ _ _ was.grows c.intern.ensures.grows;
+      done = (
+        more,
+        done.1 ∙ ap (λ w. done.0 ++ w) c.in-Some.ensures ∙ sym (append_assoc done.0 (word ∷ []) c.next_word.new.self),
+        omega (arith, grown, done.2, length_push items number, length_push done.0 word),
+        λ all begins. subst (λ ns. AreNameNumbers all ns more) (sym c.in_ok-push.ensures.items)
+            (numbers_push all items done.0 number word (done.3 all (begins_on _ _ _ c.intern.ensures.grows begins)) (begins number word c.in_ok-number.ensures.named)),
+      );
+    }
 
 pub returns : goal.returns
-returns c = record {
-  count = let count = c.loop-n.invariant.1 in omega (arith, c.symbol_count-n-end.ensures, c.loop-n-test.false, c.loop-n.auto.n-end);
-  numbers = λ all more. subst (AreNameNumbers all c.loop-n.numbers.items) (take_all c.loop-n.n c.args.statement.now.symbols (omega (arith, c.symbol_count-n-end.ensures, c.loop-n-test.false))) (c.loop-n.invariant.2 all more);
-  grows = c.loop-n.invariant.0;
-}
+returns c =
+    let done = c.loop-symbol.invariant.done in
+    let all_done = done.1 ∙ ap (λ w. done.0 ++ w) c.in_default.ensures.0 ∙ append-nil done.0 in
+    record {
+      grows = c.loop-symbol.invariant.grows;
+      count = omega (arith, done.2, ap length all_done);
+      numbers = λ all begins. subst (AreNameNumbers all c.loop-symbol.numbers.items) (sym all_done) (done.3 all begins);
+    }

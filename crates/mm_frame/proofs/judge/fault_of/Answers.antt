@@ -9,8 +9,8 @@ returns-in-Some c before h k a = grind (arith, common_steps, fault_is) steps 200
 pub returns-in-Some-2 : goal.returns-in-Some-2
 returns-in-Some-2 c before h k a =
     (λ i. fault_or 0 ((sym c.in_default.is ∙ c.front_fault.ensures before h k) i)
-    (option_or ((ap (option_map (λ (f : FrameFault). (f.word, f.number))) (sym c.in-Some-2.is) ∙ c.in_ok-fault.ensures c.args.names.now before h k a) i)
+    (option_or ((ap (option_map (λ (f : FrameFault). (f.word, f.number))) (sym c.in-Some-2.is) ∙ c.in_ok-fault.ensures before h k a) i)
     (fault_or (closing_word c.args.statement.now) (end_fault c.args.statement.now) None))) ∙ sym (fault_is before c.args.statement.now)
 
 pub returns : goal.returns
-returns c before h k a = grind (arith, common_steps, c.front_fault.ensures before h k, c.in_ok-fault.ensures c.args.names.now before h k a, at_end) steps 200000
+returns c before h k a = grind (arith, common_steps, c.front_fault.ensures before h k, c.in_ok-fault.ensures before h k a, at_end) steps 200000

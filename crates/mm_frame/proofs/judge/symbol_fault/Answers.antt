@@ -1,21 +1,41 @@
-use Rattle.std.proofs.Common.{ap, sym, ◌∙◌}
-use Rattle.mm_frame.specs.{Language.Sound.{is_repeated, is_declared, is_active_symbol}, Code.FaultInOrder.{must_differ, symbol_fault_of}}
+use Rattle.std.proofs.{Common.{arith, ◌∙◌, [], ap, get_or, sym}, lemmas.Grind.{common_steps}}
+use Rattle.mm_frame.{specs.Code.FaultInOrder.{must_differ, symbol_fault_of}, proofs.lemmas.names.NumberLemmas.{number_at}}
 use Rattle.mm_frame.proofs.judge.symbol_fault.Goals as goal
 
 pub returns-in-Constants : goal.returns-in-Constants
-returns-in-Constants c all before h k t r =
+returns-in-Constants c before h k a r =
     let item = c.args.statement.now in
-    let n = c.args.n in
+    let name = get_or item.symbols c.args.n [] in
     let kind = c.in-Constants.ensures.kind in
-    let name = c.symbol.ensures in
-    c.declared_fault.ensures.constant all before item n h k (r (ap must_differ (sym kind)) ∙ ap (is_repeated item n) (sym name)) (c.is_declared-declared.ensures all before _ h k t ∙ ap (is_declared before) (sym name))
-    ∙ (λ i. symbol_fault_of (kind i) before item n (name i))
+    let number = number_at c.args.names.now c.args.numbers.now item.symbols c.args.n 0 a c.requires in
+    let declared = c.is_declared-declared.ensures c.args.names.now before name h k number in
+    c.declared_fault.ensures.constant before item c.args.n name h k number (r (ap must_differ (sym kind))) declared ∙ (λ i. symbol_fault_of (kind i) before item c.args.n name)
 
 pub returns-in-Variables : goal.returns-in-Variables
-returns-in-Variables c all before h k t r =
+returns-in-Variables c before h k a r =
     let item = c.args.statement.now in
-    let n = c.args.n in
+    let name = get_or item.symbols c.args.n [] in
     let kind = c.in-Variables.ensures.kind in
-    let name = c.symbol-in-Variables.ensures in
-    c.declared_fault-in-Variables.ensures.variable all before item n h k (r (ap must_differ (sym kind)) ∙ ap (is_repeated item n) (sym name)) (c.is_active_symbol-active.ensures all before _ h k t ∙ ap (is_active_symbol before) (sym name))
-    ∙ (λ i. symbol_fault_of (kind i) before item n (name i))
+    let number = number_at c.args.names.now c.args.numbers.now item.symbols c.args.n 0 a c.requires in
+    let active = c.is_active_symbol-active.ensures c.args.names.now before name h k number in
+    c.declared_fault-in-Variables.ensures.variable before item c.args.n name h k number (r (ap must_differ (sym kind))) active ∙ (λ i. symbol_fault_of (kind i) before item c.args.n name)
+
+pub returns-in-Disjoint : goal.returns-in-Disjoint
+returns-in-Disjoint c before h k a r =
+    let item = c.args.statement.now in
+    let name = get_or item.symbols c.args.n [] in
+    let kind = c.in-Disjoint.ensures.kind in
+    let number = number_at c.args.names.now c.args.numbers.now item.symbols c.args.n 0 a c.requires in
+    c.disjoint_fault.ensures c.args.names.now before item c.args.n name h k number (r (ap must_differ (sym kind))) ∙ (λ i. symbol_fault_of (kind i) before item c.args.n name)
+
+pub returns-in-Floating : goal.returns-in-Floating
+returns-in-Floating c before h k a r =
+    let item = c.args.statement.now in
+    let name = get_or item.symbols c.args.n [] in
+    let kind = c.in-Floating.ensures.kind in
+    c.floating_fault.ensures c.args.names.now before item h k a ∙ (λ i. symbol_fault_of (kind i) before item c.args.n name)
+
+pub returns-in-Essential : goal.returns-in-Essential
+returns-in-Essential c before h k a r =
+    let number = number_at c.args.names.now c.args.numbers.now c.args.statement.now.symbols c.args.n 0 a c.requires in
+    grind (arith, common_steps, c.expression_fault.ensures c.args.names.now before _ h k number) steps 200000

@@ -3,4 +3,4 @@ use Rattle.mm_frame.{specs.Code.SeenNumbers.{HasSeen}, proofs.lemmas.faults.Faul
 use Rattle.mm_frame.proofs.judge.symbols_fault.Given as goal
 
 abbrev pub invariant-loop-n : goal.invariant-loop-n
-invariant-loop-n l = (l.kept ≡ true → HasSeen (take l.n l.numbers) l.seen) × Passes l.scope l.statement l.numbers l.n
+invariant-loop-n l = (l.kept ≡ true → HasSeen (take l.n l.numbers) l.seen) × Passes l.names l.scope l.statement l.numbers l.n

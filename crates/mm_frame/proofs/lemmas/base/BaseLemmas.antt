@@ -1,5 +1,5 @@
 -- Rows kept of the items, one more item, and what a base answers.
-use Rattle.std.proofs.{Math.{Seq.{take-append_seam, take-suc}, ListN.{get_or-append}}, lemmas.{Grind.{common_steps}, Bool.{false≢true, and_parts}}}
+use Rattle.std.proofs.{Math.{Seq.{take-append_seam}, ListN.{get_or-append}}, lemmas.{Grind.{common_steps}, Bool.{false≢true, and_parts}}}
 use Rattle.std.proofs.lemmas.{List.{length_push, get_or_push, take-append-le, length-take-le, Elements.{All-nil}}, Option.{slice_get_within, slice_get_cases, none-some}}
 use Rattle.std.proofs.Common.{◌≡◌, ℕ, zero, suc, ◌<◌, ◌≤◌, Bool, true, Option, Some, None, List, [], ◌∷◌, ◌++◌, length, take, drop, slice_get, IfSome, All, append-nil, ◌&&◌, get_or, is_none, is_some}
 use Rattle.std.{proofs.Common.{not, false, refl, sym, ◌∙◌, ap, subst, arith, inl, inr}, specs.{Option.{option_map}, List.{AllZip}}}
@@ -176,8 +176,3 @@ numbers_push all numbers names number name a there = record {
   count = (let p = length_push numbers number in let q = length_push names name in omega arith);
   each = grind (arith, a.each, get_cases, slice_get_within, get_or-append, get_or_push) steps 200000;
 }
-
-pub numbers_more : (all : List (List ℕ)) (numbers : List ℕ) (names : List (List ℕ)) (n more number : ℕ) (name : List ℕ) → more ≡ suc n → n < length names
-    → name ≡ get_or names n [] → AreNameNumbers all numbers (take n names) → IsNameNumber all number name
-    → AreNameNumbers all (numbers ++ number ∷ []) (take more names)
-numbers_more all numbers names n more number name m l e a there = grind (arith, common_steps, take-suc names n [] l, numbers_push all numbers (take n names) number name a there) steps 200000

@@ -25,9 +25,6 @@ item_front (x ∷ front) rest (suc n) l = item_front front rest n (omega arith)
 first_take : (base : BaseView) (said : List Said) (j : ℕ) → AreFirst base said → j < length said → take j base ≡ take j said
 first_take base said j front l = grind (arith, common_steps, take-append-le, take-append-drop) steps 200000
 
-first_item : (base : BaseView) (said : List Said) (j : ℕ) → AreFirst base said → j < length said → said_at base j ≡ item_at said j
-first_item base said j front l = grind (arith, common_steps, item_front, take-append-drop) steps 200000
-
 -- the items that are found, and what they say, at one place
 there_at : (files : FilesView) (found : List store.Item) (said : List Said) (i : ℕ) (item : store.Item) → AllZip (Says files) found said → slice_get found i ≡ Some item → slice_get said i ≡ Some (item_at said i)
 there_at files [] said i item h e = cc

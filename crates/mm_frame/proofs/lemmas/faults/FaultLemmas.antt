@@ -46,7 +46,7 @@ same_test false true f g = absurd (false≢true (g refl))
 same_test _ _ f g = refl
 
 -- two numbers are the same exactly when their names are
-same_number : (all : List (List ℕ)) (m n : ℕ) (x y : List ℕ) → AreDistinct all → IsNameNumber all m x → IsNameNumber all n y → nat_eq m n ≡ bytes_eq x y
+pub same_number : (all : List (List ℕ)) (m n : ℕ) (x y : List ℕ) → AreDistinct all → IsNameNumber all m x → IsNameNumber all n y → nat_eq m n ≡ bytes_eq x y
 same_number all m n x y distinct a b = grind (arith, common_steps, bytes_eq-Decides x y, same_test, same_Some) steps 200000
 
 among_names : (all : List (List ℕ)) (n : ℕ) (numbers : List ℕ) (names : List (List ℕ)) (number : ℕ) (name : List ℕ) → AreDistinct all → IsNameNumber all number name
@@ -71,37 +71,37 @@ pub sees_next : {S : Type 0} {kept : Bool} (numbers : List ℕ) (number n more :
 sees_next numbers number n more seen m l e h d = subst (λ w. HasSeen w seen) (ap (λ x. take n numbers ++ x ∷ []) e ∙ sym (take-suc numbers n 0 l) ∙ ap (λ w. take w numbers) (sym m)) (h d)
 
 -- this holds after all sound items of a scope, if the symbols have these numbers
-abbrev pub Judged : Scope → Said → List ℕ → (List Said → Type 0) → Type 0
-Judged scope item numbers holds = (all : List (List ℕ)) (before : List Said) → AreSound before → ScopeHolds all before scope → AreNameNumbers all numbers item.symbols → holds before
+abbrev pub Judged : List (List ℕ) → Scope → Said → List ℕ → (List Said → Type 0) → Type 0
+Judged all scope item numbers holds = (before : List Said) → AreSound before → ScopeHolds all before scope → AreNameNumbers all numbers item.symbols → holds before
 
 -- the symbols up to a number have no fault
-pub record Passes (scope : Scope) (item : Said) (numbers : List ℕ) (n : ℕ) : Type 0 where
-  pub rest : Judged scope item numbers (λ before. symbols_fault before item ≡ first_fault (symbol_fault before item) (first_symbol item + n) n (drop n item.symbols))
+pub record Passes (all : List (List ℕ)) (scope : Scope) (item : Said) (numbers : List ℕ) (n : ℕ) : Type 0 where
+  pub rest : Judged all scope item numbers (λ before. symbols_fault before item ≡ first_fault (symbol_fault before item) (first_symbol item + n) n (drop n item.symbols))
 
 -- the first of the symbols that are left
-next_fault : {scope : Scope} (item : Said) (numbers : List ℕ) (n : ℕ) → n < length item.symbols → Passes scope item numbers n → Judged scope item numbers (λ before.
+next_fault : {all : List (List ℕ)} {scope : Scope} (item : Said) (numbers : List ℕ) (n : ℕ) → n < length item.symbols → Passes all scope item numbers n → Judged all scope item numbers (λ before.
     symbols_fault before item ≡ fault_or (first_symbol item + n) (symbol_fault before item n (get_or item.symbols n [])) (first_fault (symbol_fault before item) (suc (first_symbol item + n)) (suc n) (drop (suc n) item.symbols)))
-next_fault item numbers n l p all before h k a = p.rest all before h k a ∙ first_fault_at (symbol_fault before item) (first_symbol item + n) n n (get_or item.symbols n []) item.symbols (slice_get-get_or item.symbols n [] l)
+next_fault item numbers n l p before h k a = p.rest before h k a ∙ first_fault_at (symbol_fault before item) (first_symbol item + n) n n (get_or item.symbols n []) item.symbols (slice_get-get_or item.symbols n [] l)
 
 -- a symbol with a fault
-pub fault_there : {scope : Scope} (item : Said) (numbers : List ℕ) (n word : ℕ) (number : FrameNumber) → n < length item.symbols → word ≡ first_symbol item + n → Passes scope item numbers n
-    → Judged scope item numbers (λ before. Some number ≡ symbol_fault before item n (get_or item.symbols n []))
-    → Judged scope item numbers (λ before. ◌≡◌ {A = Option (ℕ × FrameNumber)} (Some (word, number)) (symbols_fault before item))
-fault_there item numbers n word number l w p f all before h k a =
-    (λ i. fault_or (w i) (f all before h k a i) (first_fault (symbol_fault before item) (suc (first_symbol item + n)) (suc n) (drop (suc n) item.symbols))) ∙ sym (next_fault item numbers n l p all before h k a)
+pub fault_there : {all : List (List ℕ)} {scope : Scope} (item : Said) (numbers : List ℕ) (n word : ℕ) (number : FrameNumber) → n < length item.symbols → word ≡ first_symbol item + n → Passes all scope item numbers n
+    → Judged all scope item numbers (λ before. Some number ≡ symbol_fault before item n (get_or item.symbols n []))
+    → Judged all scope item numbers (λ before. ◌≡◌ {A = Option (ℕ × FrameNumber)} (Some (word, number)) (symbols_fault before item))
+fault_there item numbers n word number l w p f before h k a =
+    (λ i. fault_or (w i) (f before h k a i) (first_fault (symbol_fault before item) (suc (first_symbol item + n)) (suc n) (drop (suc n) item.symbols))) ∙ sym (next_fault item numbers n l p before h k a)
 
 -- no symbol is left
-pub none_left : {scope : Scope} (item : Said) (numbers : List ℕ) (n : ℕ) → length item.symbols ≤ n → Passes scope item numbers n → Judged scope item numbers (λ before. None ≡ symbols_fault before item)
-none_left item numbers n l p all before h k a = sym (p.rest all before h k a ∙ ap (first_fault (symbol_fault before item) (first_symbol item + n) n) (drop_all n item.symbols l))
+pub none_left : {all : List (List ℕ)} {scope : Scope} (item : Said) (numbers : List ℕ) (n : ℕ) → length item.symbols ≤ n → Passes all scope item numbers n → Judged all scope item numbers (λ before. None ≡ symbols_fault before item)
+none_left item numbers n l p before h k a = sym (p.rest before h k a ∙ ap (first_fault (symbol_fault before item) (first_symbol item + n) n) (drop_all n item.symbols l))
 
 -- a symbol with no fault
-pub passes_more : {scope : Scope} (item : Said) (numbers : List ℕ) (n more : ℕ) → more ≡ suc n → n < length item.symbols → Passes scope item numbers n
-    → Judged scope item numbers (λ before. None ≡ symbol_fault before item n (get_or item.symbols n [])) → Passes scope item numbers more
+pub passes_more : {all : List (List ℕ)} {scope : Scope} (item : Said) (numbers : List ℕ) (n more : ℕ) → more ≡ suc n → n < length item.symbols → Passes all scope item numbers n
+    → Judged all scope item numbers (λ before. None ≡ symbol_fault before item n (get_or item.symbols n [])) → Passes all scope item numbers more
 passes_more item numbers n more m l p none = record {
-  rest = λ all before h k a.
+  rest = λ before h k a.
       let word : suc (first_symbol item + n) ≡ first_symbol item + more = omega (arith, m) in
-      next_fault item numbers n l p all before h k a
-      ∙ (λ i. fault_or (first_symbol item + n) (sym (none all before h k a) i) (first_fault (symbol_fault before item) (word i) (sym m i) (drop (sym m i) item.symbols)));
+      next_fault item numbers n l p before h k a
+      ∙ (λ i. fault_or (first_symbol item + n) (sym (none before h k a) i) (first_fault (symbol_fault before item) (word i) (sym m i) (drop (sym m i) item.symbols)));
 }
 
 -- what is wrong with a symbol of a `$e`, `$a` or `$p`

@@ -1,4 +1,4 @@
-use Rattle.std.proofs.{Common.{◌≡◌, ◌^◌, ◌-◌, ◌%◌, ℕ, length, map, take, not, eqb, arith, ap, ap₂, ◌∙◌, sym, w32}, lemmas.{Bool.{eqb-true, eq-eqb}, List.{length-map}}}
+use Rattle.std.proofs.{Common.{◌≡◌, ◌^◌, ◌-◌, ◌%◌, ℕ, length, take, not, eqb, arith, ap, ap₂, ◌∙◌, sym, w32}, lemmas.{Bool.{eqb-true, eq-eqb}, List.{length-map}}}
 use Rattle.std.proofs.lemmas.{Simd.{tops_compared, mask_l-mod, length-chunk, length-zip2}, Nat.{and_mask, one_shl}}
 use lib.Lanes.{chunk, mask_l, zip2}
 use lib.Bits.{bit_and}

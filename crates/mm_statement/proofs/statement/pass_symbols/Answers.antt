@@ -10,11 +10,11 @@ skipped c =
 
 pub returns-in_default-clause-rest : goal.returns-in_default-clause-rest
 returns-in_default-clause-rest c =
-    (symbols_closed _ _ _ _ _ (skipped (goal.at.returns-in_default-clause-rest c).After-skip_plain) c.in-Some.ensures.word (sym c.if-is_plain.ensures)).rest
+    symbols_closed _ _ _ _ _ (skipped (goal.at.returns-in_default-clause-rest c).After-skip_plain) c.in-Some.ensures.word (sym c.if-is_plain.ensures)
 
 pub returns-in_default-2-clause-rest : goal.returns-in_default-2-clause-rest
 returns-in_default-2-clause-rest c =
-    (symbols_ended _ _ _ _ (skipped (goal.at.returns-in_default-2-clause-rest c).After-skip_plain) c.in_default.ensures.word.0 c.in_default.ensures.word.1).rest
+    symbols_ended _ _ _ _ (skipped (goal.at.returns-in_default-2-clause-rest c).After-skip_plain) c.in_default.ensures.word.0 c.in_default.ensures.word.1
 
 pub loop-word-preserved : goal.loop-word-preserved
 loop-word-preserved c =

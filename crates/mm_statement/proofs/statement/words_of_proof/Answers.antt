@@ -1,6 +1,23 @@
-use Rattle.std.proofs.Common.{ap, ◌∙◌}
-use Rattle.mm_statement.specs.Language.Item.{Said}
+use Rattle.std.proofs.Common.{◌≡◌, ◌+◌, drop, length, ap, sym, ◌∙◌}
+use Rattle.mm_store.specs.mm_text.Language.Unit.{tokens_of}
+use Rattle.mm_statement.{specs.{Language.{Item.{Said}, Statement.{kind_of, symbols_from, symbols_in}}, Code.PlainWords.{plain_bytes}}, proofs.SpokenLemmas.{few_from, names_from}}
+use Rattle.mm_statement.proofs.statement.words_of_proof.Goals.{After-behind_symbols}
 use Rattle.mm_statement.proofs.statement.words_of_proof.Goals as goal
 
+-- the words of the proof, by the text of the item
+rest_of : (c : After-behind_symbols) → c.behind_symbols.result.words ≡ drop (symbols_from (kind_of c.args.item.now.kind)
+    + length (symbols_in (kind_of c.args.item.now.kind) (tokens_of c.words_of-words.result.0.now c.words_of-words.result.1.words)) + 1) c.words_of-words.result.1.words
+rest_of c =
+    let kind = kind_of c.args.item.now.kind in
+    let words = c.words_of-words.result.1.words in
+    c.behind_symbols.ensures.rest ∙ ap (λ text. drop (symbols_from kind + length (symbols_in kind (tokens_of text words)) + 1) words) c.words_of-words.ensures.words.same_text
+
+pub new-requires-clause-few : goal.new-requires-clause-few
+new-requires-clause-few c = few_from _ c.words_of-words.result.1 _ _ c.words_of-words.ensures.words (rest_of (goal.at.new-requires-clause-few c).After-behind_symbols)
+
 pub returns : goal.returns
-returns c = record { words = λ said says. c.proof_among.ensures ∙ ap (λ (x : Said). x.proof) (c.words_of-words.ensures.only said says) }
+returns c = record {
+  words = λ said says.
+      let text = c.words_of-words.result.0.now in
+      c.new.ensures ∙ ap (plain_bytes text) (rest_of (goal.at.returns c).After-behind_symbols) ∙ sym (names_from text c.words_of-words.result.1.words _) ∙ ap (λ (x : Said). x.proof) (c.words_of-words.ensures.only said says);
+}

@@ -1,4 +1,4 @@
-use Rattle.std.proofs.{Common.{arith, OnOk, refl, sym, subst}, lemmas.Grind.{common_steps}}
+use Rattle.std.proofs.{Common.{OnOk, refl, sym, subst}, lemmas.Bool.{false≢true}}
 use Rattle.mm_statement.specs.Language.Item.{Passed, passed}
 use Rattle.mm_frame.{specs.Code.KeptScope.{ScopeTakes}, proofs.lemmas.scope.{KnownLemmas.{knows_passed}, KeptScopeLemmas.{passed_over, marks_more, types_more}}}
 use Rattle.mm_frame.proofs.scope.Scope.next.Goals as goal
@@ -8,4 +8,8 @@ returns-then-sound c = subst (λ b. OnOk c.add.result (ScopeTakes c.args.numbers
 
 pub returns : goal.returns
 returns c all before h k s a =
-    grind (arith, common_steps, knows_passed all before c.args.self.now.tables k.knows, marks_more before passed Passed _ _ refl k.marks c.in_ok-pass.ensures.ok, passed_over, types_more) steps 200000
+    passed_over all before c.args.statement.now c.args.sound c.if-sound.false (record {
+      knows = knows_passed all before c.args.self.now.tables k.knows;
+      marks = marks_more before passed Passed _ _ refl k.marks c.in_ok-pass.ensures.ok;
+      types = types_more all before passed _ _ 0 k.types (λ f. absurd (false≢true f)) c.in_ok-push.ensures.items;
+    })

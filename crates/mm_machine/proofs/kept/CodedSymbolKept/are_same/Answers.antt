@@ -1,5 +1,5 @@
-use Rattle.std.proofs.Common.{rules, ◌≡◌, ◌-◌, ◌+◌, ◌∙◌, map, take, drop, arith, ap, sym}
-use Rattle.mm_machine.{specs.Language.NumberedSymbols.{by_code}, proofs.lemmas.machine.CopyLemmas.{coded_ranges, same_more, same_part}}
+use Rattle.std.proofs.Common.{rules, ◌≡◌, ◌-◌, ◌+◌, arith, sym}
+use Rattle.mm_machine.proofs.lemmas.machine.CopyLemmas.{coded_ranges, same_more, same_part}
 use Rattle.mm_machine.proofs.kept.CodedSymbolKept.are_same.Goals as goal
 
 pub returns-then-not-same_in_block : goal.returns-then-not-same_in_block

@@ -1,4 +1,4 @@
-use Rattle.std.proofs.{Common.{◌≡◌, ◌≢◌, ◌-◌, ◌<◌, List, [], ◌∷◌, length, map, drop, get_or, false, refl, sym, ◌∙◌, ap, subst, arith}, lemmas.Grind.{common_steps}}
+use Rattle.std.proofs.{Common.{◌≡◌, ◌≢◌, ◌-◌, ◌<◌, List, [], ◌∷◌, length, map, drop, false, refl, sym, ◌∙◌, ap, subst, arith}, lemmas.Grind.{common_steps}}
 use Rattle.std.proofs.lemmas.List.{get_or-map, length-drop, length-map, length-take-le}
 use Rattle.mm_machine.specs.Language.{Frame.{Mandatory}, Lasting.{IsPattern, lasting_at, lasting_or, lasting_of, pattern_symbols}}
 use Rattle.mm_machine.proofs.machine.Machine.is_loaded.Goals as goal

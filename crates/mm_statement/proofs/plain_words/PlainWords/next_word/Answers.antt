@@ -1,7 +1,7 @@
 use Rattle.std.proofs.{Common.{arith, sym, ◌∙◌, ap, subst}, lemmas.Grind.{common_steps}}
 use Rattle.mm_store.specs.mm_text.Language.WordsLeft.{WordsLeft}
 use Rattle.mm_statement.{specs.Code.PlainWords.{AreFewWords, word_bytes, plain_bytes}, proofs.SpokenLemmas.{few_more, proof_more}}
-use Rattle.mm_statement.proofs.proof_words.ProofWords.next_word.Goals as goal
+use Rattle.mm_statement.proofs.plain_words.PlainWords.next_word.Goals as goal
 
 pub returns : goal.returns
 returns c = grind (arith, common_steps, proof_more) steps 200000
