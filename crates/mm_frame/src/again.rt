@@ -47,15 +47,16 @@ fn keeps_symbols(kind: ItemKind) -> bool
     )
 }
 
-/// What the item with this number in an older base knows of an item, if the two are the same.
+/// What the item with this number in an older base knows of an item that is the same.
 #[inline(always)]
 fn known_of<'a>(old: &'a Base, i: usize, item: &Item) -> Option<KnownStatement<'a>>
-    requires { (base : BaseView) × IsBase base old.now }
+    requires base { (base : BaseView) × IsBase base old.now }
+    requires again { IsAgain old.now.items i item.now }
     ensures known { (names : List (List ℕ)) (files : FilesView) (base : BaseView) → IsBaseBy names base old.now → AllZip (Says files) old.now.items base
         → IfSome result (IsKnownItem names files item.now) }
     ensures sound { (names : List (List ℕ)) (base : BaseView) → IsBaseBy names base old.now → IfSome result (IsSoundAgain names old.now.items base i item.now) }
 {
-    if !keeps_symbols(item.kind) || !is_again(old, i, item) {
+    if !keeps_symbols(item.kind) {
         return None;
     }
     // A law: the same bytes say the same.
@@ -80,13 +81,9 @@ fn put_numbers(symbols: &[NumberedSymbol], numbers: &mut Vec<usize>) -> Result<(
     Ok(())
 }
 
-/// The number of the item of an older base that may be the next after this item. Any number will do: it is compared.
-fn place_behind(old: &Base, i: usize, item: &Item, label: Option<&[u8]>) -> usize
-    requires { (base : BaseView) × IsBase base old.now }
-{
-    if is_again(old, i, item) {
-        return i.saturating_add(1);
-    }
+/// The number of the item of an older base that may be the next after one with this label; this number if there is no such
+/// item. Any number will do: it is compared.
+fn place_behind(old: &Base, i: usize, label: Option<&[u8]>) -> usize {
     let Some(label) = label else { return i };
     match old.find(label) {
         Some(k) => k.saturating_add(1),
@@ -117,40 +114,24 @@ fn read_known(
     draft.add_numbered(alloc, names, &statement)
 }
 
-/// An older base, and the number of the item of it that may be the next one.
-#[derive(Clone, Copy)]
-pub struct Beside<'a> {
-    pub base: &'a Base,
-    pub next: usize,
-}
-
-/// Reads one more item of the files, which may be the next one of an older base, and answers which may be the next one then.
-/// After out of memory there may be more names.
-fn read_again(
+/// Reads one more item of the files, of which nothing is known, and answers its label. After out of memory there may be more
+/// names.
+fn read_new<'a>(
     draft: &mut Draft,
     alloc: Global,
     names: &mut Names,
-    files: &Files,
+    files: &'a Files,
     item: &Item,
-    beside: Beside,
-) -> Result<usize, AllocError>
-    requires read { CanBeRead files.now item.now }
-    requires older { HasOlder names.old files.now beside.base.now }
+) -> Result<Option<&'a [u8]>, AllocError>
+    requires { CanBeRead files.now item.now }
     ensures grows { Begins names.old names.new }
     ensures read { OnOk result ((one : meant.Said) × Says files.now item.now one
         × ((said : List meant.Said) → IsDraftLater names.old said draft.old → IsDraftLater names.new (said ++ one ∷ []) draft.new)) }
 {
-    let Beside { base: old, next: i } = beside;
-    names.distinct();
-    if let Some(known) = known_of(old, i, item) {
-        read_known(draft, alloc, names, files, item, known)?;
-        return Ok(i.saturating_add(1));
-    }
     let statement = read_numbered(alloc, names, files, item, &mut draft.numbers)?;
-    let next = place_behind(old, i, item, statement.label());
     names.distinct();
     draft.add_numbered(alloc, names, &statement)?;
-    Ok(next)
+    Ok(statement.label())
 }
 
 /// Puts the numbers of the names of the symbols of an item of this kind, where they are needed.
@@ -204,7 +185,7 @@ fn take_over_known(
 
 /// An older base, the number of the item of it that may be the next one, and whether all items so far are its first ones.
 #[derive(Clone, Copy)]
-struct BesideFrom<'a> {
+struct Beside<'a> {
     base: &'a Base,
     next: usize,
     same: bool,
@@ -217,24 +198,22 @@ struct Reached {
     same: bool,
 }
 
-/// Whether the item with this number is the same in an older base, as all items before it are.
-fn is_same_again(beside: BesideFrom, i: usize, item: &Item) -> bool
-    requires { (base : BaseView) × IsBase base beside.base.now }
-    ensures same { IsTrue result → beside.entry.same ≡ true }
-    ensures again { IsTrue result → IsAgain beside.entry.base.now.items i item.now }
+/// The number of the item of the older base that may be the next one: after its first items this is their count.
+fn place_next(beside: Beside, count: usize) -> usize
+    ensures { beside.entry.same ≡ true → result ≡ count }
 {
-    beside.same && is_again(beside.base, i, item)
+    if beside.same { count } else { beside.next }
 }
 
-/// Reads one more item of the files: takes it over from an older base, if all items before it are the first ones there. After
-/// out of memory there may be more names.
+/// Reads one more item of the files, which may be the next one of an older base: takes it over from there, if all items before
+/// it are the first ones there. After out of memory there may be more names.
 fn read_next(
     draft: &mut Draft,
     alloc: Global,
     names: &mut Names,
     files: &Files,
     item: &Item,
-    beside: BesideFrom,
+    beside: Beside,
 ) -> Result<Reached, AllocError>
     requires read { CanBeRead files.now item.now }
     requires older { HasOlder names.old files.now beside.base.now }
@@ -246,25 +225,32 @@ fn read_next(
     names.distinct();
     // A law: the same bytes say the same.
     mm_statement::one_range_says_one();
-    let BesideFrom { base, next, .. } = beside;
-    let i = draft.count();
-    let same = is_same_again(beside, i, item);
-    if same {
-        if let Some(known) = known_of(base, i, item) {
-            take_over_known(draft, alloc, files, item, KnownBy { base, known })?;
-            return Ok(Reached {
-                next: i.saturating_add(1),
-                same,
-            });
-        }
+    let Beside { base, same, .. } = beside;
+    let i = place_next(beside, draft.count());
+    if !is_again(base, i, item) {
+        let label = read_new(draft, alloc, names, files, item)?;
+        let next = place_behind(base, i, label);
+        return Ok(Reached { next, same: false });
     }
-    let next = read_again(draft, alloc, names, files, item, Beside { base, next })?;
-    Ok(Reached { next, same })
+    let reached = Reached {
+        next: i.saturating_add(1),
+        same,
+    };
+    let Some(known) = known_of(base, i, item) else {
+        read_new(draft, alloc, names, files, item)?;
+        return Ok(reached);
+    };
+    if same {
+        take_over_known(draft, alloc, files, item, KnownBy { base, known })?;
+        return Ok(reached);
+    }
+    read_known(draft, alloc, names, files, item, known)?;
+    Ok(reached)
 }
 
 /// Reads some more items of the files, the first ones, with the help of an older base. After out of memory there may be more
 /// names.
-fn read_each_again(
+fn read_each(
     draft: &mut Draft,
     alloc: Global,
     names: &mut Names,
@@ -284,7 +270,7 @@ fn read_each_again(
     };
     for item in items {
         let Reached { next, same } = reached;
-        let beside = BesideFrom {
+        let beside = Beside {
             base: old,
             next,
             same,
@@ -295,7 +281,7 @@ fn read_each_again(
 }
 
 /// Reads items of the files, from the first one on, with the help of an older base.
-pub fn read_all_again(
+pub fn read_all(
     alloc: Global,
     names: &mut Names,
     files: &Files,
@@ -308,7 +294,7 @@ pub fn read_all_again(
     ensures read { IfOk result (λ draft. (said : List meant.Said) × AllZip (Says files.now) items.now said × IsDraftLater names.new said draft) }
 {
     let mut draft = Draft::with_room(alloc, items.len())?;
-    match read_each_again(&mut draft, alloc, names, files, items, old) {
+    match read_each(&mut draft, alloc, names, files, items, old) {
         Ok(()) => Ok(draft),
         Err(error) => {
             drop(draft);

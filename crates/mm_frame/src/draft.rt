@@ -1,6 +1,6 @@
 //! A base in the making: what the items read so far leave.
 
-ghost use Rattle.std.specs.{Prelude.{◌≡◌, ◌∷◌, ◌++◌, ℕ, List, [], true, is_none, IfOk, IsTrue, MatchBool, OnOk, Ok, All, length}, Option.{option_map}, List.{AllZip}};
+ghost use Rattle.std.specs.{Prelude.{◌≡◌, ◌∷◌, ◌++◌, ℕ, List, [], true, is_none, IfOk, MatchBool, OnOk, Ok, All, length}, Option.{option_map}};
 ghost use Rattle.mm_store.specs.Language.FileFacts.{CanBeRead};
 ghost use Rattle.mm_statement.specs.Language.{Item.{is_read}, Statement.{Says, kind_of}};
 ghost use Rattle.mm_frame.specs.{Language.{Sound.{AreSound, IsSound, sound_items}, Framing.{expression}, Base.{BaseView, fault_by, is_sound_at}}, Code.BlockMarks.{block_marks}};
@@ -194,7 +194,7 @@ fn with<A: Drop, B: Drop>(one: A, more: Result<B, AllocError>) -> Result<(A, B),
 }
 
 impl Draft {
-    ghost use Rattle.mm_frame.specs.Code.KeptBase.{IsDraft, IsDraftApart, IsDraftLater, AreParts};
+    ghost use Rattle.mm_frame.specs.Code.KeptBase.{IsDraft, IsDraftApart, AreParts};
 
     /// No items, with room for this many.
     pub fn with_room(alloc: Global, count: usize) -> Result<Self, AllocError>
@@ -359,64 +359,6 @@ impl Draft {
         let from = OldItem { base: old, number };
         self.assertions.take_over(alloc, active, from)?;
         self.follow(alloc, statement, symbols, &None)
-    }
-
-    /// Reads one more item of the files. After out of memory there may be more names.
-    pub fn read(
-        &mut self,
-        alloc: Global,
-        names: &mut Names,
-        files: &Files,
-        item: &Item,
-    ) -> Result<(), AllocError>
-        requires { CanBeRead files.now item.now }
-        ensures grows { Begins names.old names.new }
-        ensures read { OnOk result ((one : meant.Said) × Says files.now item.now one
-            × ((said : List meant.Said) → IsDraftLater names.old said self.old → IsDraftLater names.new (said ++ one ∷ []) self.new)) }
-    {
-        let statement = read_numbered(alloc, names, files, item, &mut self.numbers)?;
-        names.distinct();
-        self.add_numbered(alloc, names, &statement)
-    }
-
-    /// Reads items of the files, from the first one on.
-    pub fn read_all(
-        alloc: Global,
-        names: &mut Names,
-        files: &Files,
-        items: &[Item],
-    ) -> Result<Draft, AllocError>
-        requires { All (CanBeRead files.now) items.now }
-        ensures grows { Begins names.old names.new }
-        ensures read { IfOk result (λ draft. (said : List meant.Said) × AllZip (Says files.now) items.now said × IsDraftLater names.new said draft) }
-    {
-        let mut draft = Draft::with_room(alloc, items.len())?;
-        match draft.read_each(alloc, names, files, items) {
-            Ok(()) => Ok(draft),
-            Err(error) => {
-                drop(draft);
-                Err(error)
-            }
-        }
-    }
-
-    /// Reads some more items of the files. After out of memory there may be more names.
-    fn read_each(
-        &mut self,
-        alloc: Global,
-        names: &mut Names,
-        files: &Files,
-        items: &[Item],
-    ) -> Result<(), AllocError>
-        requires { All (CanBeRead files.now) items.now }
-        ensures grows { Begins names.old names.new }
-        ensures read { OnOk result ((more : List meant.Said) × AllZip (Says files.now) items.now more
-            × ((said : List meant.Said) → IsDraftLater names.old said self.old → IsDraftLater names.new (said ++ more) self.new)) }
-    {
-        for item in items {
-            self.read(alloc, names, files, item)?;
-        }
-        Ok(())
     }
 
     /// What is kept when all items are read.

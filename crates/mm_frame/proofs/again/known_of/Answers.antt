@@ -1,5 +1,5 @@
-use Rattle.std.proofs.{Common.{arith, ap, sym, ◌∙◌, subst}, lemmas.Grind.{common_steps}}
-use Rattle.mm_statement.specs.Language.Item.{Said, is_read}
+use Rattle.std.proofs.Common.{ap, sym, ◌∙◌, subst}
+use Rattle.mm_statement.specs.Language.{Item.{Said, is_read}, Statement.{kind_of}}
 use Rattle.mm_frame.{specs.{Language.Base.{before, said_at}, Code.{KnownItem.{numbers_of}, Numbers.{AreNameNumbers}}}, proofs.lemmas.frames.FrameNumbers.{kind_at}}
 use Rattle.mm_frame.proofs.lemmas.reading.KnownItems.{same_again, numbers_known}
 use Rattle.mm_frame.proofs.again.known_of.Goals as goal
@@ -7,8 +7,7 @@ use Rattle.mm_frame.proofs.again.known_of.Goals as goal
 pub returns-in-Some-clause-known : goal.returns-in-Some-clause-known
 returns-in-Some-clause-known c names files base by each =
     let i = c.args.i in
-    let again = c.is_again.ensures c.if-not-is_again.false in
-    let same = same_again files c.args.old.now.items base i c.args.item.now c.one_range_says_one.ensures each again in
+    let same = same_again files c.args.old.now.items base i c.args.item.now c.one_range_says_one.ensures each c.requires.again in
     record {
       label = λ said says. c.label.ensures base (names, by) ∙ ap (λ (x : Said). x.label) (same said says);
       symbols = λ said says.
@@ -20,5 +19,13 @@ returns-in-Some-clause-known c names files base by each =
 
 pub returns-in-Some-clause-sound : goal.returns-in-Some-clause-sound
 returns-in-Some-clause-sound c names base by =
-    let again = c.is_again.ensures c.if-not-is_again.false in
-    grind (arith, common_steps, kind_at, sym c.keeps_symbols.ensures ∙ c.if-not-keeps_symbols.false, c.in-Some.ensures.sound, c.in-Some.ensures.symbols, c.in-Some.ensures.numbered) steps 200000
+    let again = c.requires.again in
+    let kind = sym (kind_at c.args.old.now.items base c.args.i again.was by.kinds again.there) ∙ ap kind_of again.same.kind in
+    let read = ap is_read kind ∙ sym c.keeps_symbols.ensures ∙ c.if-not-keeps_symbols.false in
+    record {
+      again = again;
+      sound = sym (c.in-Some.ensures.sound base (names, by));
+      read = read;
+      symbols = c.in-Some.ensures.symbols names base by read;
+      numbered = c.in-Some.ensures.numbered names base by;
+    }

@@ -3,7 +3,7 @@ use Rattle.std.proofs.lemmas.{Grind.{common_steps}, Bool.{false≢true}, List.{l
 use Rattle.std.proofs.Common.{◌≡◌, ℕ, zero, suc, ◌<◌, Bool, true, Option, Some, List, [], ◌∷◌, ◌++◌, length, take, slice_get, nat_eq, refl, sym, ◌∙◌, ap, subst, arith, take-suc, take-append-drop}
 use Rattle.std.specs.{HashMap.{get}, List.{AllZip}}
 use Rattle.mm_store.specs.Language.FilesView.{FilesView}
-use Rattle.mm_frame.specs.{declared.pair_lists.PairLists.{PairLists}, Language.{Sound.{sound_items}, Framing.{active_pairs}, Base.{BaseView, before, said_at}, Answering.{AreRows, BaseAnswers}}}
+use Rattle.mm_frame.specs.{declared.pair_lists.PairLists.{PairLists}, Language.{Sound.{sound_items}, Framing.{active_pairs}, Base.{BaseView, before}, Answering.{AreRows, BaseAnswers}}}
 use Rattle.mm_frame.specs.Code.{KeptAssertions.{TellsPairs}, KeptPairLists.{AreMade, IsList, KeepsLists}, KeptSparse.{value_kept}, KnownItem.{IsAgain}, TakenOver.{AreFirst, AreFirstIf}}
 use Rattle.mm_frame.proofs.lemmas.{pairs.{PairListLemmas.{list_stays}, SharedPairs.{same_joined}}, reading.KnownItems.{same_again}}
 use Rattle.mm_machine.specs.Language.{Frame.{Symbol, AreSamePairs}, NumberedSymbols.{kept_pairs}}
@@ -32,11 +32,11 @@ there_at files (x ∷ found) (y ∷ said) zero item h e = refl
 there_at files (x ∷ found) (y ∷ said) (suc i) item h e = there_at files found said i item h.1 e
 there_at files (x ∷ found) [] i item h e = absurd h
 
-pub first_after : (same other : Bool) (files : FilesView) (answers : BaseAnswers) (said : List Said) (item : store.Item) (i : ℕ) (one : Said) → OneRangeSaysOne → i ≡ length said
-    → (other ≡ true → IsAgain answers.items i item) → (other ≡ true → same ≡ true) → Says files item one → AreFirstIf same files answers said → AreFirstIf other files answers (said ++ one ∷ [])
+pub first_after : (same other : Bool) (files : FilesView) (answers : BaseAnswers) (said : List Said) (item : store.Item) (i : ℕ) (one : Said) → OneRangeSaysOne → (other ≡ true → i ≡ length said)
+    → IsAgain answers.items i item → (other ≡ true → same ≡ true) → Says files item one → AreFirstIf same files answers said → AreFirstIf other files answers (said ++ one ∷ [])
 first_after same other files answers said item i one law number again still says first t b each =
     let n = length said in
-    let here = subst (λ k. IsAgain answers.items k item) number (again t) in
+    let here = subst (λ k. IsAgain answers.items k item) (number t) again in
     let there = there_at files answers.items b n here.was each here.there ∙ ap Some (same_again files answers.items b n item law each here one says) in
     let n =
     length said in let within = slice_get_within b n one there in

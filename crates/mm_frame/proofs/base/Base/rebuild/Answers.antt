@@ -1,30 +1,9 @@
-use Rattle.std.{proofs.{Common.{ℕ, List, sym, subst, arith}, lemmas.Slice.Zip.{AllZip-long}}, specs.List.{AllZip}}
-use Rattle.mm_frame.specs.{declared.base.Base.TheInside.{Inside}, Language.{Base.{BaseView}, Answering.{IsBaseBy}}, Code.BaseInside.{answers_of}}
-use Rattle.mm_frame.proofs.lemmas.{base.{AnswerLemmas.{base_told, labels_told}, SaidLabels.{said_labelled}}, frames.FrameNumbers.{kinds_said}}
-use Rattle.mm_machine.specs.Language.Names.{AreDistinct, Begins}
-use Rattle.mm_statement.specs.Language.Statement.{Says}
+use Rattle.std.proofs.Common.{sym, subst}
+use Rattle.mm_store.specs.Language.{FilesView.{files_in}, Expansion.{IsExpansion}}
 use Rattle.mm_frame.proofs.base.Base.rebuild.Goals as goal
-
-pub invariant_of-result : goal.invariant_of-result
-invariant_of-result c =
-    let read = c.in_ok-draft.ensures.read in
-    let names = c.read_all_again.new.names in
-    let parts = c.parts.ensures names read.0 (read.2 names c.distinct.ensures (λ n name there. there)) in
-    record {
-      rows = parts.kept;
-      labels = labels_told names read.0 c.parts.result parts;
-    }
 
 pub returns-clause-base : goal.returns-clause-base
 returns-clause-base c =
-    let files = c.args.files.now in
-    let found = c.in_ok-found.found.items in
-    let read = c.in_ok-draft.ensures.read in
-    let each = subst (λ w. AllZip (Says files) w read.0) c.deref.ensures.value read.1 in
-    let base : BaseView = read.0 in
-    let built : Inside = record { items = c.in_ok-found.found; parts = c.parts.result } in
-    let by : (all : List (List ℕ)) → AreDistinct all → Begins c.read_all_again.new.names all → IsBaseBy all base (answers_of built) = λ all distinct more.
-    base_told all base built distinct (sym (AllZip-long (Says files) found read.0 each)) (omega
-    (arith, AllZip-long (Says files) found read.0 each, c.in_ok-found.ensures.small)) (said_labelled files found read.0 each) (kinds_said files found read.0 each)
-    (c.parts.ensures all read.0 (read.2 all distinct more)) in
-    (base, record { expansion = c.in_ok-found.ensures.items; each = each }, by c.read_all_again.new.names c.distinct.ensures (λ n name there. there), by)
+    let built = c.in_ok-of_items.ensures.base in
+    let expansion = subst (IsExpansion (files_in c.args.files.now) c.args.top.now) (sym built.0) c.in_ok-found.ensures.items in
+    (built.1.0, record { expansion = expansion; each = built.1.1 }, built.1.2, built.1.3)

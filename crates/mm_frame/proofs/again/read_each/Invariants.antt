@@ -3,7 +3,7 @@ use Rattle.mm_machine.specs.Language.Names.{Begins}
 use Rattle.mm_statement.specs.Language.Statement.{Says}
 use Rattle.mm_frame.specs.Code.{KeptBase.{IsDraftLater}, TakenOver.{AreFirstIf}}
 use Rattle.mm_statement.specs.Language.Item as meant
-use Rattle.mm_frame.proofs.again.read_each_again.Given as goal
+use Rattle.mm_frame.proofs.again.read_each.Given as goal
 
 abbrev pub invariant-loop-item : goal.invariant-loop-item
 invariant-loop-item l = Begins l.initial.names l.names × (said : List meant.Said) × AllZip (Says l.files) (take l.item-index l.items) said

@@ -1,7 +1,7 @@
 use Rattle.std.{proofs.{lemmas.Grind.{common_steps}, Common.{◌≡◌, ◌∷◌, ◌++◌, [], suc, ◌+◌, take, subst, arith}}, specs.List.{AllZip}}
 use Rattle.mm_statement.specs.Language.Statement.{Says}
 use Rattle.mm_frame.proofs.lemmas.{names.NumberLemmas.{begins_on}, base.BaseLemmas.{zip_more}, reading.KnownItems.{older_on}}
-use Rattle.mm_frame.proofs.again.read_each_again.Goals as goal
+use Rattle.mm_frame.proofs.again.read_each.Goals as goal
 
 pub loop-item-preserved : goal.loop-item-preserved
 loop-item-preserved c =
