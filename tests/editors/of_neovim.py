@@ -205,6 +205,7 @@ def keyed(program):
             assert [each[2] for each in editor.settled()["found"]] == ["P11"]
             # A new name in all places.
             editor.keys("/mp $a<CR>gR")
+            editor.until(lambda: editor.remote("--remote-expr", "mode()") == "c", "prompt")
             editor.keys("<C-u>detach<CR>")
             editor.until(lambda: editor.text().count(b"detach") == 2, "rename")
             assert b"( detach ) ABCDE" in editor.text() and b"~ mp" in editor.text()
