@@ -1,7 +1,7 @@
 -- The words of a statement between its keywords, read one by one.
 use Rattle.std.proofs.lemmas.{Grind.{common_steps}, List.{drop-map, drop-drop, take-map, append-nil, length-drop, length-map, length-take}, Simd.{map-map}}
 use Rattle.std.proofs.Common.{◌≡◌, ℕ, zero, suc, ◌+◌, ◌<◌, ◌≤◌, Bool, true, false, cond, if◌then◌else◌, List, [], ◌∷◌, ◌++◌, Option, Some, None, length, map, take, drop, refl, sym, ◌∙◌, ap, subst}
-use Rattle.std.{proofs.Common.{arith, length-append}, specs.{Prelude.{slice_get, MatchOption}, Option.{option_map}, List.{AllByRecursion, flat_map, prefix_len}}}
+use Rattle.std.{proofs.Common.{arith, length-append}, specs.{Prelude.{MatchOption}, List.{AllByRecursion, flat_map, prefix_len}}}
 use Rattle.mm_store.specs.mm_text.{declared.word.{Word.{Word}, WordKind.TheVariants.{Plain}}, Language.{WordsLeft.{WordsLeft, SkipsPlainWords}, Unit.{Token, token_of, tokens_of, spellings}}}
 use Rattle.mm_statement.specs.Language.{Item.{Kind, is_labelled}, Statement.{is_plain_kind, is_plain, token_names, plain_from, symbols_from, symbols_in}}
 use Rattle.mm_statement.specs.Code.PlainWords.{AreFewWords, AreWordsOf, TakesLabel, word_bytes, plain_words, plain_bytes}
@@ -77,12 +77,6 @@ behind_label true words behind first (Some word) h e = e ∙ sym (ap (drop 2) h)
 behind_label false words behind first None h e = e ∙ ap (drop 1) h
 behind_label _ words behind first _ h e = absurd h
 
-pub label_is : (labelled : Bool) (text : List ℕ) (words new : List Word) (label : Option Word) → TakesLabel labelled words label new
-    → option_map (word_bytes text) label ≡ (if labelled then option_map (λ (token : Token). token.bytes) (slice_get (tokens_of text words) 0) else None)
-label_is true text words new (Some word) h = sym (ap (λ (ws : List Word). option_map (λ (token : Token). token.bytes) (slice_get (tokens_of text ws) 0)) h)
-label_is false text words new None h = refl
-label_is _ text words new _ h = absurd h
-
 -- the words behind the one that closes the symbols
 pub behind_closing : (kind : Kind) (text : List ℕ) (words behind first rest : List Word) (label : Option Word) → TakesLabel (is_labelled kind) words label behind → first ≡ drop 1 behind
     → IsBehind first rest → rest ≡ drop (symbols_from kind + length (symbols_in kind (tokens_of text words)) + 1) words
@@ -128,13 +122,13 @@ module _ (text : List ℕ) (words : List Word) where
   proof_spelled : take (prefix_len (λ (w : Word). is_plain_kind w.kind) words) (spellings text words) ≡ plain_bytes text words
   proof_spelled = grind (arith, common_steps, map-map, take-map) steps 200000
 
-  pub proof_some : AreSome (spellings text words) → AreSome (plain_bytes text words)
+  proof_some : AreSome (spellings text words) → AreSome (plain_bytes text words)
   proof_some h = subst AreSome proof_spelled (some_before (prefix_len (λ (w : Word). is_plain_kind w.kind) words) (spellings text words) h)
 
-  pub proof_few : length (plain_bytes text words) ≤ length words
+  proof_few : length (plain_bytes text words) ≤ length words
   proof_few = omega (arith, length-map (plain_words words) (word_bytes text), length-take (prefix_len (λ (w : Word). is_plain_kind w.kind) words) words)
 
-  pub proof_bytes : bytes_of (plain_bytes text words) ≤ bytes_of (spellings text words)
+  proof_bytes : bytes_of (plain_bytes text words) ≤ bytes_of (spellings text words)
   proof_bytes = subst (λ names. bytes_of names ≤ bytes_of (spellings text words)) proof_spelled (bytes_before (prefix_len (λ (w : Word). is_plain_kind w.kind) words) (spellings text words))
 
 -- after the first word there are few

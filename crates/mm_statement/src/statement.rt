@@ -18,9 +18,10 @@ use std::marker::Model;
 #[derive(Drop)]
 pub struct Statement<'a> {
     kind: ItemKind,
-    text: &'a [u8],
     label: Option<&'a [u8]>,
-    /// All words, from the first one on.
+    /// The bytes of the item.
+    text: &'a [u8],
+    /// All their words, from the first one on: by these it is said what the statement means. No call reads them.
     words: WordCursor<'a>,
 }
 
@@ -102,8 +103,8 @@ impl<'a> Statement<'a> {
         first.next_word();
         let statement = Statement {
             kind: item.kind,
-            text,
             label: label_bytes(text, label),
+            text,
             words,
         };
         (statement, PlainWords::new(text, first))
@@ -119,8 +120,8 @@ impl<'a> Statement<'a> {
         let (text, words) = words_of(files, item);
         Statement {
             kind: item.kind,
-            text,
             label,
+            text,
             words,
         }
     }

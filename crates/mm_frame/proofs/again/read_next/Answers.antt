@@ -29,7 +29,7 @@ returns-in_default-clause-read c =
       λ said stands first.
           let count = c.count.ensures ∙ (stands c.args.names.now c.distinct.ensures (λ n name there. there)).rows.count in (
             read.2 said stands,
-            first_after beside.same beside.same c.args.files.now beside.base.now said c.args.item.now c.place_next-i.result read.0 c.one_range_says_one.ensures (λ t. c.place_next-i.ensures t ∙ count) again (λ t. t) read.1 first,
+            first_after beside.same c.args.files.now beside.base.now said c.args.item.now c.place_next-i.result read.0 c.one_range_says_one.ensures (λ t. c.place_next-i.ensures t ∙ count) again read.1 first,
           ),
     )
 
@@ -51,7 +51,7 @@ returns-then-same-clause-read c =
                 let now = older.later all distinct more in
                 let sound = subst (λ i. IsSoundAgain all old.items base i c.args.item.now c.in-Some.known) number (c.in-Some.ensures.sound all base now) in
                 read.2 all base said now older.each (first c.if-same.true base older.each) (c.in-Some.ensures.known all files base now older.each) sound (stands all distinct more),
-            first_after beside.same beside.same files old said c.args.item.now c.place_next-i.result read.0 c.one_range_says_one.ensures (λ t. number) again (λ t. t) read.1 first,
+            first_after beside.same files old said c.args.item.now c.place_next-i.result read.0 c.one_range_says_one.ensures (λ t. number) again read.1 first,
           ),
     )
 

@@ -16,12 +16,7 @@ use Rattle.mm_store.specs.declared.item.Item as store
 pub before_next : (base : BaseView) (said : List Said) (i : ℕ) → AreFirst base said → i ≡ length said → before base i ≡ sound_items said
 before_next base said i front number = ap (before base) number ∙ ap sound_items front
 
--- an earlier item is the same in the base
-item_front : (front rest : List Said) (n : ℕ) → n < length front → item_at (front ++ rest) n ≡ item_at front n
-item_front [] rest n l = absurd (omega arith)
-item_front (x ∷ front) rest zero l = refl
-item_front (x ∷ front) rest (suc n) l = item_front front rest n (omega arith)
-
+-- and so are those before an earlier one
 first_take : (base : BaseView) (said : List Said) (j : ℕ) → AreFirst base said → j < length said → take j base ≡ take j said
 first_take base said j front l = grind (arith, common_steps, take-append-le, take-append-drop) steps 200000
 
@@ -32,17 +27,16 @@ there_at files (x ∷ found) (y ∷ said) zero item h e = refl
 there_at files (x ∷ found) (y ∷ said) (suc i) item h e = there_at files found said i item h.1 e
 there_at files (x ∷ found) [] i item h e = absurd h
 
-pub first_after : (same other : Bool) (files : FilesView) (answers : BaseAnswers) (said : List Said) (item : store.Item) (i : ℕ) (one : Said) → OneRangeSaysOne → (other ≡ true → i ≡ length said)
-    → IsAgain answers.items i item → (other ≡ true → same ≡ true) → Says files item one → AreFirstIf same files answers said → AreFirstIf other files answers (said ++ one ∷ [])
-first_after same other files answers said item i one law number again still says first t b each =
+-- so are those up to an item that is the same there
+pub first_after : (same : Bool) (files : FilesView) (answers : BaseAnswers) (said : List Said) (item : store.Item) (i : ℕ) (one : Said) → OneRangeSaysOne → (same ≡ true → i ≡ length said)
+    → IsAgain answers.items i item → Says files item one → AreFirstIf same files answers said → AreFirstIf same files answers (said ++ one ∷ [])
+first_after same files answers said item i one law number again says first t b each =
     let n = length said in
     let here = subst (λ k. IsAgain answers.items k item) (number t) again in
     let there = there_at files answers.items b n here.was each here.there ∙ ap Some (same_again files answers.items b n item law each here one says) in
-    let n =
-    length said in let within = slice_get_within b n one there in
+    let within = slice_get_within b n one there in
     let count : length (said ++ one ∷ []) ≡ suc n = (let p = length_push said one in omega arith) in
-    ap (λ k. take k b) count ∙ take-suc b n one within
-    ∙ (λ i. (first (still t) b each) i ++ get_or_from_slice_get b n one one there i ∷ [])
+    ap (λ k. take k b) count ∙ take-suc b n one within ∙ (λ i. first t b each i ++ get_or_from_slice_get b n one one there i ∷ [])
 
 -- ---- the lists of active pairs
 
