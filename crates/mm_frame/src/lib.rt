@@ -31,6 +31,7 @@ mod pair_lists;
 mod paired;
 mod partners;
 mod parts;
+mod passed;
 mod places;
 mod rising;
 mod same;

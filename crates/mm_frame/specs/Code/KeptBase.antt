@@ -2,6 +2,7 @@
 use Rattle.std.specs.Prelude.{◌≡◌, ℕ, List, Option}
 use Rattle.std.specs.Option.{option_map}
 use Rattle.mm_frame.specs.declared.draft.Draft.{Draft}
+use Rattle.mm_frame.specs.declared.passed.Passed.{Passed}
 use Rattle.mm_frame.specs.declared.parts.BaseParts.{BaseParts}
 use Rattle.mm_frame.specs.declared.frame.Frame.{Frame}
 use Rattle.mm_machine.specs.declared.symbol.NumberedSymbol.{NumberedSymbol}
@@ -31,24 +32,18 @@ hypotheses_at base i = told_numbers (before base i) (said_at base i)
 abbrev pub find_in : BaseView → List ℕ → Option ℕ
 find_in base label = last_where (carries label) (sound_items base)
 
--- the draft is that after items that say this, by the numbers of names in the list of all
-pub record IsDraft (all : List (List ℕ)) (said : List Said) (draft : Draft) : Type 0 where
-  pub scope : ScopeHolds all (sound_items said) draft.scope
-  pub kept : AreRowsKept draft.rows
-  pub rows : AreRows IsLabelTold said (rows_of draft.rows)
-  pub symbols : AreSymbols all (sound_items said) draft.expressions
-  pub assertions : AreAssertions all said draft.assertions
-  pub active : AreActiveKept (sound_items said) draft.expressions draft.active
-  pub pair_table : KnowsPairs all (sound_items said) draft.pair_table
+-- this is kept of items that say this, by the numbers of names in the list of all
+pub record IsPassed (all : List (List ℕ)) (said : List Said) (passed : Passed) : Type 0 where
+  pub scope : ScopeHolds all (sound_items said) passed.scope
+  pub kept : AreRowsKept passed.rows
+  pub rows : AreRows IsLabelTold said (rows_of passed.rows)
+  pub symbols : AreSymbols all (sound_items said) passed.expressions
+  pub active : AreActiveKept (sound_items said) passed.expressions passed.active
+  pub pair_table : KnowsPairs all (sound_items said) passed.pair_table
 
--- the draft is that after these items, apart from what is kept of the assertions
-pub record IsDraftApart (all : List (List ℕ)) (said : List Said) (draft : Draft) : Type 0 where
-  pub scope : ScopeHolds all (sound_items said) draft.scope
-  pub kept : AreRowsKept draft.rows
-  pub rows : AreRows IsLabelTold said (rows_of draft.rows)
-  pub symbols : AreSymbols all (sound_items said) draft.expressions
-  pub active : AreActiveKept (sound_items said) draft.expressions draft.active
-  pub pair_table : KnowsPairs all (sound_items said) draft.pair_table
+-- the draft is that after these items: the symbols of the last one, and their numbers, are nothing that is said
+abbrev pub IsDraft : List (List ℕ) → List Said → Draft → Type 0
+IsDraft all said draft = IsPassed all said draft.passed × AreAssertions all said draft.assertions
 
 -- the draft is right by each list of names that begins with these
 abbrev pub IsDraftLater : List (List ℕ) → List Said → Draft → Type 0

@@ -1,6 +1,6 @@
 use Rattle.std.proofs.{Common.{arith, ℕ, List, sym, subst}, lemmas.{Grind.{elements}, Bool.{MatchBool-at_false, MatchBool-at_true}, Result.{on_ok_weaker}}}
 use Rattle.mm_statement.specs.Language.Item.{Said}
-use Rattle.mm_frame.{specs.Code.{KeptBase.{IsDraft}, Numbers.{AreNameNumbers}}, proofs.lemmas.{base.NumbersAside.{numbers_aside}, reading.KnownItems.{numbers_on}}}
+use Rattle.mm_frame.{specs.Code.{KeptBase.{IsDraft}, Numbers.{AreNameNumbers}}, proofs.lemmas.reading.KnownItems.{numbers_on}}
 use Rattle.mm_frame.proofs.again.read_known.Goals as goal
 
 pub returns-then-branch : goal.returns-then-branch
@@ -22,8 +22,7 @@ returns c =
     let statement = c.known-statement.result in
     let numbers = c.requires.known.symbols statement c.known-statement.ensures.says in
     let same = MatchBool-at_false _ _ c.if-branch.false c.in_ok-take_known.ensures in
-    let aside = λ (all : List (List ℕ)) (said : List Said) (d : IsDraft all said c.args.draft.now).
-    numbers_aside all said c.take_known.new.self c.put_numbers.new.numbers (subst (IsDraft all said) (sym same) d) in
+    let aside = λ (all : List (List ℕ)) (said : List Said) (d : IsDraft all said c.args.draft.now). subst (IsDraft all said) (sym same) d in
     let put = λ (all : List (List ℕ)) (m : AreNameNumbers all _ statement.symbols). subst (λ (n : List ℕ). AreNameNumbers all n statement.symbols) (sym c.in_ok-put_numbers.ensures) m in
     on_ok_weaker c.add_numbered.result
     (λ takes. (

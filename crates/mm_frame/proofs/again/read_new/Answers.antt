@@ -1,16 +1,15 @@
 use Rattle.std.proofs.Common.{ℕ, List}
 use Rattle.mm_statement.specs.Language.Item.{Said}
-use Rattle.mm_frame.{specs.Code.KeptBase.{IsDraft}, proofs.lemmas.{base.NumbersAside.{numbers_aside}, names.NumberLemmas.{begins_on}}}
+use Rattle.mm_frame.{specs.Code.KeptBase.{IsDraft}, proofs.lemmas.names.NumberLemmas.{begins_on}}
 use Rattle.mm_frame.proofs.again.read_new.Goals as goal
 
 pub returns-clause-read : goal.returns-clause-read
 returns-clause-read c =
     let names = c.read_numbered.new.names in
     let grows = c.in_ok-statement.ensures.grows in
-    let numbers = c.in_ok-statement.ensures.numbers in
-    let aside = λ (all : List (List ℕ)) (said : List Said) (d : IsDraft all said c.args.draft.now). numbers_aside all said c.args.draft.now c.read_numbered.new.numbers d in (
+    let numbers = c.in_ok-statement.ensures.numbers in (
       c.in_ok-statement.statement,
       c.in_ok-statement.ensures.says,
       λ said stands all distinct more.
-          c.in_ok-add_numbered.ensures all said (aside names said (stands names c.distinct.ensures grows)) (aside all said (stands all distinct (begins_on _ _ _ grows more))) (numbers names (λ n name there. there)) (numbers all more),
+          c.in_ok-add_numbered.ensures all said (stands names c.distinct.ensures grows) (stands all distinct (begins_on _ _ _ grows more)) (numbers names (λ n name there. there)) (numbers all more),
     )

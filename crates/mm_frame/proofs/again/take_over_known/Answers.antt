@@ -1,6 +1,6 @@
 use Rattle.std.proofs.{Common.{◌≡◌, true, ℕ, List, ◌∙◌, ap, sym, subst}, lemmas.Result.{on_ok_weaker}}
 use Rattle.mm_statement.specs.Language.Item.{Said, is_read}
-use Rattle.mm_frame.{specs.{Language.{Sound.{sound_items}, Framing.{expression}}, Code.{KeptScope.{uses_numbers}, Numbers.{AreNameNumbers}}}, proofs.lemmas.base.NumbersAside.{numbers_aside}}
+use Rattle.mm_frame.{specs.{Language.{Sound.{sound_items}, Framing.{expression}}, Code.{KeptScope.{uses_numbers}, Numbers.{AreNameNumbers}}}}
 use Rattle.mm_frame.proofs.lemmas.reading.KnownItems.{same_again}
 use Rattle.mm_frame.proofs.again.take_over_known.Goals as goal
 
@@ -18,8 +18,7 @@ returns c =
                 let read = sym (ap (λ (x : Said). is_read x.kind) here) ∙ again.read in
                 let numbers = λ (u : uses_numbers statement.kind ≡ true). subst (λ (n : List ℕ). AreNameNumbers all n statement.symbols) (sym (c.in_ok-put_needed.ensures (ap (λ (x : Said). uses_numbers x.kind) (sym says.is) ∙ u)))
                 (known.symbols statement says) in
-                takes all base said (record { by = by; front = front; here = here }) again.sound read (again.symbols ∙ (λ i. expression (sound_items (front i)) (here i))) again.numbered numbers
-                (numbers_aside all said c.args.draft.now c.put_needed.new.numbers d),
+                takes all base said (record { by = by; front = front; here = here }) again.sound read (again.symbols ∙ (λ i. expression (sound_items (front i)) (here i))) again.numbered numbers d,
           ))
           c.take_over.ensures;
     }

@@ -4,14 +4,14 @@ use Rattle.mm_frame.proofs.draft.Draft.parts.Goals as goal
 
 pub returns : goal.returns
 returns c = λ all said d.
-    let kept = c.tables_and_blocks-tables.ensures all (sound_items said) d.scope in
+    let kept = c.tables_and_blocks-tables.ensures all (sound_items said) d.0.scope in
     record {
-      kept = d.kept;
-      rows = d.rows;
-      symbols = d.symbols;
-      frames = d.assertions.frames.kept;
+      kept = d.0.kept;
+      rows = d.0.rows;
+      symbols = d.0.symbols;
+      frames = d.1.frames.kept;
       labels = kept.0.labels;
       marks = kept.1;
       pair_numbers = pairs_stay all said _ _ _
-          (record { more = []; whole = c.finished.ensures ∙ sym (append-nil _) }) d.assertions.pair_numbers;
+          (record { more = []; whole = c.finished.ensures ∙ sym (append-nil _) }) d.1.pair_numbers;
     }

@@ -1,8 +1,8 @@
 use Rattle.std.proofs.{Common.{◌++◌, ◌∷◌, [], ◌∙◌, ap, sym, subst}, lemmas.Bool.{false≢true}}
 use Rattle.mm_statement.specs.Language.Item.{is_kind, Disjoint}
 use Rattle.mm_frame.{specs.Code.{KeptPairTable.{KnowsPairs}, KeptScope.{taken}}, proofs.lemmas.pairs.PairTableLemmas.{pairs_passed, pairs_taken}}
-use Rattle.mm_frame.proofs.draft.follow_pairs.Goals.{else-sound-via-then-sound+else-is_disjoint, else-sound-via-else-sound}
-use Rattle.mm_frame.proofs.draft.follow_pairs.Goals as goal
+use Rattle.mm_frame.proofs.passed.follow_pairs.Goals.{else-sound-via-then-sound+else-is_disjoint, else-sound-via-else-sound}
+use Rattle.mm_frame.proofs.passed.follow_pairs.Goals as goal
 
 pub returns-else-sound : goal.returns-else-sound
 returns-else-sound c all before said distinct sounds kind number marks numbers sound known = pairs_passed all before said c.args.item.sound c.args.pairs.now (elim c.else-sound.branch [

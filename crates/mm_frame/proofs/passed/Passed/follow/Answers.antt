@@ -1,27 +1,26 @@
 use Rattle.std.{proofs.{lemmas.Grind.{common_steps}, Common.{◌≡◌, true, length, ◌∷◌, ◌++◌, [], ◌∙◌, ap, sym, subst, arith}}, specs.Option.{option_map}}
-use Rattle.mm_frame.proofs.lemmas.{faults.FoundFaults.{kept_next}, base.BaseLemmas.{rows_more, kept_are_sound, kept_count, sound_found_none, none_found, symbols_more, symbols_taken}}
+use Rattle.mm_frame.proofs.lemmas.{faults.FoundFaults.{kept_next}, base.BaseLemmas.{rows_more, kept_are_sound, kept_count, sound_found_none, symbols_more, symbols_taken}}
 use Rattle.mm_frame.{proofs.lemmas.base.RowLemmas.{some_lent}, specs.{Language.{Base.{fault_by}, Sound.{sound_items}, Answering.{AreRows, IsLabelTold}}, Code.KeptActiveItems.{AreActiveKept}}}
 use Rattle.mm_frame.specs.Code.{KeptPairTable.{KnowsPairs}, KeptRows.{rows_of, fault_told}, KeptScope.{ScopeHolds, taken}, Numbers.{AreNameNumbers}}
-use Rattle.mm_frame.proofs.draft.Draft.follow.Goals as goal
+use Rattle.mm_frame.proofs.passed.Passed.follow.Goals as goal
 
-pub returns-clause-follows : goal.returns-clause-follows
-returns-clause-follows c all said d told numbers kept =
+pub returns : goal.returns
+returns c all said d told numbers kept =
     let item = c.args.statement.now in
     let before = sound_items said in
     let found = c.args.fault.now in
-    let flag = c.is_none.result in
+    let flag = c.next-item.result.sound in
     let are_sound = kept_are_sound said in
-    let none = none_found found flag c.is_none.ensures in
+    let none = sym c.next-item.ensures.sound in
     let is_sound = λ (t : flag ≡ true). sound_found_none (λ f. (f.word, f.number)) before item found told (none ∙ t) in
     let more = ap (λ b. before ++ taken b item ∷ []) (sym none) ∙ (grind (arith, common_steps, kept_next) steps 200000) in
     let symbols = c.args.symbols.now in
     let own = λ (t : flag ≡ true). kept.read (none ∙ t) in
-    let kind = c.kind.ensures.kind in
-    let holds = c.in_ok-next.ensures all before are_sound d.scope is_sound (λ t. subst (λ w. AreNameNumbers all w item.symbols) (sym c.deref-2.ensures.value) (numbers t)) in
-    let number : c.count.result ≡ length before = omega (arith, c.count.ensures, kept_count said, d.rows.count) in
+    let kind = c.next-item.ensures.kind in
+    let holds = c.in_ok-next.ensures all before are_sound d.scope is_sound numbers in
+    let number : c.next-item.result.number ≡ length before = omega (arith, c.next-item.ensures.number, kept_count said, d.rows.count) in
     let pairs = c.in_ok-follow_pairs.ensures all before item d.scope.knows.distinct are_sound kind number (c.blocks-blocks.ensures ∙ d.scope.marks)
-    (λ t. subst (λ w. AreNameNumbers all w item.symbols) (sym c.deref.ensures.value)
-    (numbers (grind (arith, common_steps) steps 200000))) is_sound d.pair_table in
+    (λ t. numbers (grind (arith, common_steps) steps 200000)) is_sound d.pair_table in
     let added = c.in_ok-add.ensures in
     let active = c.in_ok-follow.ensures before item c.args.self.now.expressions symbols kind number (c.blocks-blocks-2.ensures ∙ holds.marks) d.symbols.count added d.active in
     record {
