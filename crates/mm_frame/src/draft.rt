@@ -3,8 +3,8 @@
 ghost use Rattle.std.specs.{Prelude.{◌≡◌, ◌∷◌, ◌++◌, ℕ, List, [], true, is_none, IfOk, MatchBool, OnOk, All, length}, Option.{option_map}};
 ghost use Rattle.mm_store.specs.Language.FileFacts.{CanBeRead};
 ghost use Rattle.mm_statement.specs.Language.{Item.{is_read}, Statement.{Says}};
-ghost use Rattle.mm_frame.specs.{Language.{Sound.{AreSound, IsSound, sound_items}, Framing.{expression}, Base.{BaseView, is_sound_at}}, Code.KeptScope.{uses_numbers}};
-ghost use Rattle.mm_frame.specs.Code.{KeptSymbols.{AreSymbolsOf}, KnownItem.{numbers_of}, KeptTables.{Knows}, KeptRows.{rows_of}, Numbers.{AreNameNumbers}, TakenOver.{IsNextOf}};
+ghost use Rattle.mm_frame.specs.{Language.{Sound.{AreSound, IsSound, sound_items}, Framing.{expression}, Base.{BaseView, is_sound_at}}, Code.{KeptScope.{uses_numbers}, KeptSymbols.{AreSymbolsOf}}};
+ghost use Rattle.mm_frame.specs.Code.{KnownItem.{numbers_of}, KeptTables.{Knows}, KeptRows.{rows_of}, Numbers.{AreNameNumbers}, TakenOver.{IsNextOf}};
 ghost use Rattle.mm_machine.specs.Language.{Names.{AreDistinct, Begins}, NumberedSymbols.{symbols_of, IsNumbered}};
 ghost use Rattle.mm_statement.specs.Language.Item as meant;
 ghost use Rattle.mm_frame.specs.Language.Sound as meaning;

@@ -2,9 +2,8 @@
 
 ghost use Rattle.std.specs.{Prelude.{◌≡◌, ◌∷◌, ◌++◌, ℕ, List, [], true, is_none, IfOk, OnOk, Ok, length}, Option.{option_map}};
 ghost use Rattle.mm_statement.specs.Language.Statement.{kind_of};
-ghost use Rattle.mm_frame.specs.{Language.{Sound.{AreSound, IsSound, sound_items}, Base.{fault_by}}, Code.BlockMarks.{block_marks}};
-ghost use Rattle.mm_frame.specs.Code.{KeptEarlier.{KnowsEarlier}, KeptPairTable.{KnowsPairs}, KeptRows.{rows_of}, KeptScope.{taken, uses_numbers}};
-ghost use Rattle.mm_frame.specs.Code.{KeptSymbols.{AreSymbolsOf}, Numbers.{AreNameNumbers}};
+ghost use Rattle.mm_frame.specs.{Language.{Sound.{AreSound, IsSound, sound_items}, Base.{fault_by}}, Code.{BlockMarks.{block_marks}, KeptEarlier.{KnowsEarlier}, KeptPairTable.{KnowsPairs}}};
+ghost use Rattle.mm_frame.specs.Code.{KeptRows.{rows_of}, KeptScope.{taken, uses_numbers}, KeptSymbols.{AreSymbolsOf}, Numbers.{AreNameNumbers}};
 ghost use Rattle.mm_machine.specs.Language.Names.{AreDistinct};
 ghost use Rattle.mm_statement.specs.Language.Item as meant;
 ghost use Rattle.mm_frame.specs.Language.Sound as meaning;
@@ -24,8 +23,8 @@ use mm_statement::Statement;
 use mm_store::ItemKind;
 use std::alloc::{AllocError, Global};
 
-/// What is kept of the items so far, apart from the frames of the assertions and the lists of their active pairs, which are made
-/// of it.
+/// What is kept of the items so far, apart from the frames of assertions and the lists of their active pairs, which are made of
+/// it.
 #[derive(Drop)]
 pub struct Passed {
     pub scope: Scope,

@@ -1,7 +1,7 @@
 -- Items that are alike, of files that begin alike: the same bytes of the same pieces, which are one item, at one place.
-use Rattle.std.proofs.lemmas.{List.{take-append-le, Folds.{concat-append}}, Option.{slice_get-map, slice_get_within, same_Some}}
-use Rattle.std.proofs.Common.{◌≡◌, ℕ, zero, suc, ◌+◌, ◌≤◌, List, [], ◌∷◌, ◌++◌, Some, length, count_by, map, take, slice_get, slice_range, refl, sym, ap, ◌∙◌, subst, arith, append_assoc}
-use Rattle.std.{proofs.Common.{length-append}, specs.{List.{after_last, concat}, Option.{option_map}}}
+use Rattle.std.proofs.Common.{rules, ◌≡◌, ℕ, zero, suc, ◌+◌, ◌≤◌, List, [], ◌∷◌, ◌++◌, Some, length, count_by, map, take, slice_get, slice_range, refl, sym, ap, ◌∙◌, subst, arith, length-append}
+use Rattle.std.{proofs.lemmas.{Grind.{common_steps}, List.{take-append-le, Folds.{concat-append}}, Option.{slice_get-map, slice_get_within, same_Some}}, specs.List.{after_last, concat}}
+use Rattle.std.specs.Option.{option_map}
 use Rattle.mm_proof.specs.mm_text.{declared.word.Word.{Word}, Language.{Place.{column_at, is_line_feed, line_at}, Reading.{HasWords}, Stretch.{moved}, Unit.{tokens_of}}}
 use Rattle.mm_proof.specs.mm_store.Language.{Pieces.{text_in, text_under}, FilesView.{FilesView, File, plain, plain_file, text_of}, FileFacts.{CanBeRead, IsByte, StandsIn, piece_offset}}
 use Rattle.mm_proof.specs.{mm_store.Language.Keyless.{keyless_item}, mm_statement.Language.{Database.{Located}, Locating.{IsLocated}, Statement.{Says, item_of, kind_of}}}
@@ -85,19 +85,11 @@ module _ (a b : FilesView) (x y : store.Item) (alike : AreAlike a b x y) where
 
     -- have one place in their files
     pub same_offset : at ≡ there
-    same_offset =
-        let within = slice_get_within f.file.pieces x.piece f.bytes f.is_piece in
-        let front : take y.piece g.file.pieces ≡ take x.piece f.file.pieces = ap (take y.piece) more.1 ∙ ap (λ k. take k (f.file.pieces ++ more.0)) (sym same_place) ∙ take-append-le x.piece f.file.pieces more.0 (omega (arith, within)) in
-        f.is_offset ∙ ap (λ pieces. length (concat pieces) + m) (sym front) ∙ ap (λ k. piece_offset g.file y.piece + k) number ∙ sym g.is_offset
+    same_offset = grind (arith, common_steps, same_place, slice_get_within, take-append-le) steps 200000
 
     -- and the same bytes before them
     pub same_front : take at text ≡ take there other
-    same_front =
-        let pieces = concat f.file.pieces in
-        let within : at ≤ length pieces = omega (arith, f.is_offset, f.within, joined_within f.file.pieces x.piece f.bytes f.is_piece) in
-        let longer : other ≡ pieces ++ (concat more.0 ++ g.file.tail) =
-        g.is_text ∙ ap (λ all. concat all ++ g.file.tail) more.1 ∙ ap (λ all. all ++ g.file.tail) (concat-append f.file.pieces more.0) ∙ append_assoc pieces (concat more.0) g.file.tail in
-        ap (take at) f.is_text ∙ take-append-le at pieces f.file.tail within ∙ sym (take-append-le at pieces (concat more.0 ++ g.file.tail) within) ∙ ap (take at) (sym longer) ∙ ap (λ k. take k other) same_offset
+    same_front = search (rules, concat-append, joined_within, same_offset, take-append-le)
 
   -- ---- their words
 

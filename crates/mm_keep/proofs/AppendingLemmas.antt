@@ -1,8 +1,8 @@
 -- Something is rightly reported of each item; and a unit behind all others of the top file leaves it as it was.
-use Rattle.std.proofs.lemmas.{Grind.{common_steps}, List.{length-map}, Option.{get_or_from_slice_get, same_Some, slice_get-map, slice_get_within}}
-use Rattle.std.proofs.Common.{◌≡◌, ◌<◌, ◌≤◌, ℕ, zero, suc, List, [], ◌∷◌, Some, ◌++◌, length, length-append, map, refl, slice_get, sym, ap, ◌∙◌, subst, subst₂, arith, take, All, is_none}
+use Rattle.std.proofs.lemmas.{Grind.{common_steps}, List.{length-map}, Option.{same_Some, slice_get-map}}
+use Rattle.std.proofs.Common.{◌≡◌, ◌<◌, ◌≤◌, ℕ, zero, suc, List, [], ◌∷◌, Some, ◌++◌, length, length-append, map, refl, slice_get, sym, ap, ◌∙◌, subst, subst₂, arith, take, is_none}
 use Rattle.std.specs.{List.{AllZip}, Option.{option_map}}
-use Rattle.mm_proof.specs.mm_store.Language.{Appending.{IsAppended}, Expansion.{IsExpansion}, FileFacts.{StandsIn}, FilesView.{FilesView, File, files_in, plain}, Keyless.{keyless_item}}
+use Rattle.mm_proof.specs.mm_store.Language.{Appending.{IsAppended}, Expansion.{IsExpansion}, FilesView.{FilesView, File, files_in, plain}, Keyless.{keyless_item}}
 use Rattle.mm_proof.specs.mm_statement.Language.{Database.{IsDatabase, Located}, Item.{Said, item_at}, Laws.{FilesHaveOneDatabase, LocatedAreItems}, Locating.{IsLocated}, Statement.{Says}}
 use Rattle.mm_proof.specs.mm_frame.Language.{Base.{base_of, said_at, told_fault}, Framing.{active_pairs, expression, frame, resolve}, Laws.{SaidAreLabelled}, Sound.{sound_items}}
 use Rattle.mm_proof.specs.mm_verdict.Language.{ItemLaws.{HasOneVerdictAt, HasVerdictAt, SpotsAreIn}, SameToDecode.{labels_named}, View.{View, view_at, AreSameViews}}

@@ -1,5 +1,5 @@
 -- How a session goes on with edited files.
-use Rattle.std.proofs.{Common.{arith, ◌≡◌, ℕ, List, sym, ◌∙◌, subst}, lemmas.Grind.{common_steps}}
+use Rattle.std.proofs.{Common.{rules, arith, ◌≡◌, ℕ, List, sym, ◌∙◌, subst}, lemmas.Grind.{common_steps}}
 use Rattle.mm_proof.specs.mm_store.Language.{Undoing.{UndoView}, Batches.{IsBatchOf, IsSpendable, KeepsReading, KeepsStanding}, FileFacts.{parked_in}, FilesView.{FilesView, files_in, plain}}
 use Rattle.mm_proof.specs.{mm_text.Language.Asked.{Asked}, mm_frame.{Language.{Base.{BaseView}, Older.{IsOlder}}, declared.base.Base.{Base}}, mm_verdict.Language.Work.{Recorded}}
 use Rattle.mm_keep.specs.{declared.keeping.Next.{Next}, Code.{Changing.{CanTake, HasKept, HasRun, WereKept}, KeptCheck.{Kept}, KeptSession.{AreChecked}, Next.{IsBuilt, IsNextBase}}}
@@ -8,14 +8,7 @@ use Rattle.mm_keep.{specs.Code.Planned.{CanCarry}, proofs.KeepLemmas.{ItemsStand
 -- what is checked can be carried
 pub can_carry : (before after : FilesView) (undos : List UndoView) (top : List ℕ) (names : List (List ℕ)) (checked : List Kept) (next : Next) → (can : CanTake before after undos top names checked next)
     → CanCarry can.old can.base checked next.ran.plan next.ran.checked
-can_carry before after undos top names checked next can = record {
-  old_labelled = can.old_labelled;
-  new_labelled = can.built.by_names.labelled;
-  planned = can.goes_on.planned;
-  was = can.old_checked;
-  ran_is = can.goes_on.ran;
-  count = can.goes_on.count;
-}
+can_carry before after undos top names checked next can = grind (arith, common_steps) steps 200000
 
 -- what is kept once the edits are settled
 pub kept_settled : ItemsStand → (before after settled : FilesView) (undos : List UndoView) (top : List ℕ) (names : List (List ℕ)) (checked : List Kept) (next : Next) → (can : CanTake before after undos top names checked next)
@@ -37,16 +30,8 @@ kept_settled stand before after settled undos top names checked next can same ke
 -- what was run
 pub changed_settled : ItemsStand → (before after settled : FilesView) (undos : List UndoView) (top : List ℕ) (names : List (List ℕ)) (checked : List Kept) (next : Next) → (can : CanTake before after undos top names checked next)
     → files_in settled ≡ files_in after → KeepsStanding after settled → (work : Recorded) → work ≡ next.ran.work → HasRun before settled top work
-changed_settled stand before after settled undos top names checked next can same keeps work is = rw is (record {
-  were_found = can.found;
-  are_found = next.base.items;
-  old = can.old;
-  new = can.base;
-  were = can.old_is;
-  are = base_settled stand after settled top next.base.items can.base same keeps can.built.of_files;
-  runs = can.goes_on.runs;
-  steps = can.goes_on.steps;
-})
+changed_settled stand before after settled undos top names checked next can same keeps work is =
+    search (rules, base_settled stand after settled top next.base.items can.base same keeps can.built.of_files)
 
 -- the old base can be read in edited files
 pub old_in : (before after : FilesView) (undos : List UndoView) (top : List ℕ) (names : List (List ℕ)) (code : Base) (checked : List Kept)
@@ -56,20 +41,7 @@ old_in before after undos top names code checked were = record { later = were.ke
 pub can_take : (before after : FilesView) (undos : List UndoView) (top : List ℕ) (names all : List (List ℕ)) (code : Base)
     (checked : List Kept) (next : Next) → (were : WereKept before after undos top names code checked)
     → ((view : BaseView) → IsOlder names after code view → IsNextBase all after top view next) → CanTake before after undos top all checked next
-can_take before after undos top names all code checked next were goes =
-    let goes_on = goes were.base (old_in before after undos top names code checked were) in
-    record {
-      spendable = were.spendable;
-      parked = were.kept.parked;
-      found = code.items;
-      old = were.base;
-      old_is = were.kept.built.of_files;
-      old_labelled = were.kept.built.by_names.labelled;
-      old_checked = were.kept.checked_is;
-      base = goes_on.base;
-      built = goes_on.built;
-      goes_on = goes_on.goes_on;
-    }
+can_take before after undos top names all code checked next were goes = search (rules, old_in before after undos top names code checked were)
 
 -- files that are edited, with what was kept of them before
 pub were_kept : KeepsNumbers → (before after : FilesView) (undos : List UndoView) (top : List ℕ) (names : List (List ℕ)) (code : Base) (checked : List Kept) → HasKept before top names code checked

@@ -1,5 +1,5 @@
 -- Of an assertion there is one list each of what it cites, of what cites it, and of its axioms.
-use Rattle.std.proofs.{Common.{arith, ◌≡◌, ℕ, List, length, refl, sym, subst, Contains}, lemmas.{Grind.{common_steps}, Bool.{and_parts, false≢true}}}
+use Rattle.std.proofs.{Common.{rules, arith, ◌≡◌, ℕ, List, length, refl, sym, subst, Contains}, lemmas.{Grind.{common_steps}, Bool.{and_parts, false≢true}}}
 use Rattle.mm_proof.specs.{mm_statement.Language.{Database.{Located}, Laws.{FilesHaveOneDatabase}}, mm_frame.Language.{Base.{BaseView, base_of}, Laws.{HasOwnLabels}}}
 use Rattle.mm_keep.specs.Language.{Citations.{LeadsTo, none, step, CitesItem, IsAxiomOf}, Laws.{OneListEach, IsOneList, AxiomsHaveThemselves}, Runs.{AreThose}, Sessions.{IsAssertion, AreNumbersOf}}
 use Rattle.mm_keep.{specs.Language.Told.{IsAxiom}, proofs.{CitedItems.{assertion_carries}, NumberLemmas.{one_rising}}}
@@ -21,11 +21,8 @@ one_list_of one own stands label session numbers copies a b =
     (among (stands base a.2.0) (length base) numbers copies a.2.2 those) (among (stands base a.2.0) (length base) copies numbers those a.2.2)
 
 pub one_list_each : FilesHaveOneDatabase → HasOwnLabels → OneListEach
-one_list_each one own = (
-  one_list_of one own (λ base i k. CitesItem base i k),
-  one_list_of one own (λ base i k. CitesItem base k i),
-  one_list_of one own (λ base i k. IsAxiomOf base i k),
-)
+one_list_each one own =
+    search (rules, one_list_of one own (λ base i k. CitesItem base i k), one_list_of one own (λ base i k. CitesItem base k i), one_list_of one own (λ base i k. IsAxiomOf base i k))
 
 -- ---- axioms
 

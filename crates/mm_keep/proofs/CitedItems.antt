@@ -1,6 +1,6 @@
 -- The items that a theorem cites are those whose labels are words that cite.
+use Rattle.std.proofs.Common.{rules, ◌≡◌, ◌<◌, ◌⊎◌, ℕ, Bool, true, false, Option, Some, None, List, length, get_or, slice_get, sym, ◌∙◌, subst, inl, inr, arith, ◌↔◌, Contains, slice_index}
 use Rattle.std.proofs.lemmas.{Grind.{common_steps}, Bool.{and_parts, and_from, false≢true}, List.{get_or_default}, Option.{same_Some, slice_get-get_or}}
-use Rattle.std.proofs.Common.{◌≡◌, ◌<◌, ◌⊎◌, ℕ, Bool, true, false, Option, Some, None, List, length, get_or, slice_get, sym, ◌∙◌, subst, inl, inr, arith, ◌↔◌, Contains, slice_index}
 use Rattle.mm_proof.specs.mm_frame.Language.{Base.{BaseView, AreLabelled, said_at, is_proof_at}, Laws.{HasOwnLabels}, Resolving.{IsCarrier}}
 use Rattle.mm_proof.specs.mm_verdict.Language.{CitingLaws.{CitesNameAssertions, CitesTellAssertions, IsCiteOf}, BaseLabels.{setting_at}, DecodingLaws.{CitesRise}, VerdictAt.{cites_at, decoding_at}}
 use Rattle.mm_proof.specs.mm_verdict.Language.Work.{Judgement}
@@ -78,9 +78,7 @@ said_of view j (Some None) is = absurd is
 said_of view j (Some (Some judgement)) is = is
 
 pub checked_at : (view : BaseView) (checked : List Kept) (j : ℕ) (one : Option Judgement) → AreChecked view checked → j < length view → said (get_or checked j None) ≡ one → IsCheckedAt view j one
-checked_at view checked j one are within e =
-    let kept = get_or checked j None in
-    subst (IsCheckedAt view j) e (said_of view j kept (are.each j kept (slice_get-get_or checked j None (omega (arith, within, are.count)))))
+checked_at view checked j one are within e = search (rules, said_of, slice_get-get_or)
 
 -- the numbers of its words rise
 pub cites_rising : CitesRise → (view : BaseView) (j : ℕ) (cites : List ℕ) → cites ≡ cites_at view j → AreRising cites

@@ -1,9 +1,9 @@
 -- The words of a proof that cite, one after another, and marks of the items that they are labels of.
 use Rattle.std.proofs.lemmas.{Grind.{common_steps}, List.{drop-drop, get_or-set_same, get_or-set_other, length-set}, Option.{same_Some, none-some}}
-use Rattle.std.proofs.Common.{rules, ◌≡◌, ◌⊎◌, ◌<◌, ℕ, suc, ◌+◌, Bool, true, Option, Some, None, List, [], ◌∷◌, length, drop, set, slice_get, refl, sym, ap, ◌∙◌, subst, inl, inr, arith, MatchOption}
+use Rattle.std.proofs.Common.{rules, ◌≡◌, ◌⊎◌, ◌<◌, ℕ, suc, ◌+◌, Bool, true, Option, Some, None, List, [], ◌∷◌, length, drop, set, slice_get, refl, sym, ap, ◌∙◌, inl, inr, arith, MatchOption}
 use Rattle.std.{proofs.{Common.{slice_index}, Math.Decide.{dec_lt}}, specs.Option.{option_map}}
 use Rattle.mm_proof.specs.{mm_frame.Language.{Base.{BaseView}, Resolving.{IsCarrier}}, mm_verdict.Language.DecodingLaws.{Rise}}
-use Rattle.mm_keep.specs.Code.Cited.{AreRising, HasLabelAmong, IsAmongCited, IsMarked, MarksMore, passed_words}
+use Rattle.mm_keep.specs.Code.Cited.{AreRising, HasLabelAmong, IsAmongCited, MarksMore, passed_words}
 
 -- ---- words
 
@@ -44,24 +44,12 @@ last_or_before words cites x label a = grind (arith, common_steps, dec_lt a.at x
 words_next : (view : BaseView) (words : List (List ℕ)) (cites : List ℕ) (x : ℕ) (Q : ℕ → Type 0) (before now after : List Bool)
     → ((k : ℕ) → Q k → HasLabelAmong view words cites (x + 1) k) → ((k : ℕ) (h : HasLabelAmong view words cites (x + 1) k) → slice_get words (slice_index cites x) ≡ Some h.label → Q k)
     → MarksMore (HasLabelAmong view words cites x) before now → MarksMore Q now after → MarksMore (HasLabelAmong view words cites (x + 1)) before after
-words_next view words cites x Q before now after one last first second = record { count = second.count ∙ first.count; each = λ k. (to k, from k) }
-  where
-    to : (k : ℕ) → IsMarked after k → IsMarked before k ⊎ HasLabelAmong view words cites (x + 1) k
-    to k m = search (rules, second.each k, first.each k) steps 500000
-
-    from : (k : ℕ) → IsMarked before k ⊎ HasLabelAmong view words cites (x + 1) k → IsMarked after k
-    from k (inl m) = (second.each k).1 (inl ((first.each k).1 (inl m)))
-    from k (inr h) = elim (last_or_before words cites x h.label h.among) [
-      | inl a ↦ (second.each k).1 (inl ((first.each k).1 (inr (record { label = h.label; among = a; carrier = h.carrier }))))
-      | inr e ↦ (second.each k).1 (inr (last k h e))
-    ]
+words_next view words cites x Q before now after one last first second = search (rules, last_or_before)
 
 pub words_more :
     (view : BaseView) (words : List (List ℕ)) (cites : List ℕ) (x : ℕ) (label : List ℕ) (before now after : List Bool) → slice_get words (slice_index cites x) ≡ Some label →
     MarksMore (HasLabelAmong view words cites x) before now → MarksMore (IsCarrier view label) now after → MarksMore (HasLabelAmong view words cites (x + 1)) before after
-words_more view words cites x label before now after there first second = words_next view words cites x (IsCarrier view label) before now after
-    (λ k c. let one : IsAmongCited words cites (x + 1) label = record { at = x; before = omega arith; there = there } in record { label = label; among = one; carrier = c })
-    (λ k h e. subst (λ l. IsCarrier view l k) (same_Some h.label label (sym e ∙ there)) h.carrier) first second
+words_more view words cites x label before now after there first second = search (rules, same_Some, words_next)
 
 pub words_skip :
     (view : BaseView) (words : List (List ℕ)) (cites : List ℕ) (x : ℕ) (before now : List Bool) → slice_get words (slice_index cites x) ≡ None →

@@ -1,12 +1,11 @@
 -- A session has one answer each: what is found of its items, the verdict on an assertion, the counts, and the labels.
 use Rattle.std.proofs.lemmas.{Grind.{common_steps}, Option.{slice_get-get_or, same_Some}}
 use Rattle.std.proofs.Common.{◌≡◌, ℕ, ◌<◌, Bool, true, false, ◌&&◌, List, length, get_or, refl, sym, ◌∙◌, ap, subst, subst₂, Some, slice_get, ext_get_or, arith}
-use Rattle.mm_proof.specs.{mm_text.Language.Place.{line_at, column_at}, mm_store.Language.FilesView.{File, text_of}, mm_frame.declared.FrameNumber.{FrameNumber}}
-use Rattle.mm_proof.specs.{mm_frame.Language.{Base.{BaseView, base_of, fault_at, is_sound_at, said_at}, Laws.{HasOwnLabels}}, mm_statement.Language.Database.{Located}}
-use Rattle.mm_proof.specs.{mm_statement.Language.{Item.{Kind, Axiom, Theorem, is_assertion, is_kind}, Laws.{FilesHaveOneDatabase}}, mm_verdict.Language.ItemLaws.{HasOneVerdictAt}}
+use Rattle.mm_proof.specs.{mm_store.Language.FilesView.{File}, mm_frame.{declared.FrameNumber.{FrameNumber}, Language.{Base.{BaseView, base_of, fault_at, is_sound_at, said_at}, Laws.{HasOwnLabels}}}}
+use Rattle.mm_proof.specs.{mm_statement.Language.{Database.{Located}, Item.{Kind, Axiom, Theorem, is_assertion, is_kind}, Laws.{FilesHaveOneDatabase}}, mm_verdict.Language.ItemLaws.{HasOneVerdictAt}}
 use Rattle.mm_proof.specs.mm_machine.declared.{ProofNumber.{ProofNumber}, Spot.{Spot}, Verdict.{Verdict}}
 use Rattle.mm_keep.specs.{declared.finding.At.{At}, Language.{Laws.{OneCount, OneLabel, OneFinding, OneVerdict, OneTally}, Sessions.{IsAssertion}}}
-use Rattle.mm_keep.specs.Language.WordPlaces.{HasPlace, IsPlaceOfSpot, proof_word, word_offset, spelled}
+use Rattle.mm_keep.specs.Language.WordPlaces.{HasPlace, IsPlaceOfSpot, proof_word, spelled}
 use Rattle.mm_keep.specs.Language.Told.{Shown, Told, Quiet, AnAxiom, Proved, Incomplete, Wrong, Fault, IsRightlyTold, IsFaultOf, HasProofVerdict, HasVerdictShown, AreRightlyTold, counts}
 use Rattle.mm_keep.proofs.CitedItems.{assertion_carries}
 use Rattle.mm_proof.specs.mm_machine.declared.Verdict.TheVariants as verdicts
@@ -122,12 +121,7 @@ module _ (files others : List File) (items copies : List Located) (n : ℕ) (agr
 
 -- a byte of a word has one place
 same_place : (files : List File) (x : Located) (word letter : ℕ) (at there : At) → HasPlace files x word letter at → HasPlace files x word letter there → at ≡ there
-same_place files x word letter at there f g =
-    let file : f.file ≡ g.file = same_Some f.file g.file (sym f.there ∙ g.there) in
-    let line : at.line ≡ there.line = f.line ∙ (λ i. line_at (text_of (file i)) (word_offset (file i) x word letter)) ∙ sym g.line in
-    let column : at.column ≡ there.column = f.column ∙ (λ i. column_at (text_of (file i)) (word_offset (file i) x word letter)) ∙ sym g.column in
-    let number : at.file ≡ there.file = f.in_file ∙ sym g.in_file in
-    λ i. record { file = number i; line = line i; column = column i }
+same_place files x word letter at there f g = grind (arith, common_steps, same_Some f.file g.file (sym f.there ∙ g.there)) steps 200000
 
 pub one_told : HasOneVerdictAt → (files : List File) (items : List Located) (n : ℕ) (one copy : Told) → IsRightlyTold files items n one → IsRightlyTold files items n copy → one ≡ copy
 one_told law files items n = agreed_told files files items items n (record {

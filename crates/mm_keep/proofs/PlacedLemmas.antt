@@ -1,9 +1,9 @@
 -- What is reported of items that are kept as bytes under keys is rightly reported of them where they stand.
-use Rattle.std.proofs.lemmas.{List.{length-map}, Option.{get_or_from_slice_get, slice_get-map}}
-use Rattle.std.{proofs.Common.{◌≡◌, ◌≤◌, ℕ, ◌+◌, Option, Some, None, List, length, slice_get, slice_range, sym, ap, ◌∙◌, subst, arith}, specs.{List.{AllZip}, Option.{option_map}}}
-use Rattle.mm_proof.specs.mm_text.{declared.word.Word.{Word}, Language.{Place.{line_at, column_at}, Stretch.{moved}, Unit.{Token, token_of, tokens_of}}}
-use Rattle.mm_proof.specs.{mm_store.Language.{FilesView.{FilesView, plain}, FileFacts.{CanBeRead, piece_offset}}, mm_frame.Language.Base.{base_of, said_at}, mm_statement.Language.Database.{Located}}
-use Rattle.mm_proof.specs.{mm_statement.Language.{Item.{Said, passed}, Locating.{IsLocated}, Statement.{Says}}, mm_verdict.Language.ItemLaws.{SpotsAreIn, IsSpotIn}, mm_machine.declared.Spot.{Spot}}
+use Rattle.std.proofs.lemmas.{Grind.{common_steps}, List.{length-map}, Option.{get_or_from_slice_get, slice_get-map}}
+use Rattle.std.{proofs.Common.{◌≡◌, ◌≤◌, ℕ, ◌+◌, Some, List, length, slice_get, slice_range, sym, ap, ◌∙◌, subst, arith}, specs.{List.{AllZip}, Option.{option_map}}}
+use Rattle.mm_proof.specs.{mm_text.Language.{Place.{line_at, column_at}, Stretch.{moved}, Unit.{token_of, tokens_of}}, mm_store.Language.FilesView.{FilesView, plain}}
+use Rattle.mm_proof.specs.{mm_store.Language.FileFacts.{CanBeRead, piece_offset}, mm_frame.Language.Base.{base_of, said_at}, mm_statement.Language.{Database.{Located}, Item.{Said, passed}}}
+use Rattle.mm_proof.specs.{mm_statement.Language.{Locating.{IsLocated}, Statement.{Says}}, mm_verdict.Language.ItemLaws.{SpotsAreIn, IsSpotIn}, mm_machine.declared.Spot.{Spot}}
 use Rattle.mm_keep.specs.{declared.finding.At.{At}, Language.WordPlaces.{HasPlace, IsPlaceOfSpot, proof_word, spelled, start_of, word_offset}}
 use Rattle.mm_keep.specs.Language.Told.{Shown, Told, Quiet, AnAxiom, Proved, Incomplete, Wrong, Fault, IsRightlyTold, IsShown, AreRightlyTold}
 use Rattle.mm_keep.{specs.Code.KeyedTold.{HasKeyedPlace, IsKeyedPlaceOfSpot, AreKeyedTold, IsKeyedShown, IsKeyedTold, word_start, word_spelling}, proofs.SpotLemmas.{letter_in}}
@@ -20,26 +20,15 @@ module _ (files : FilesView) (item : store.Item) (one : Located) (is : IsLocated
 
   word_there : (word : ℕ) → slice_get one.words word ≡ option_map (moved item.start) (option_map (token_of Bytes) (slice_get read.words word))
   word_there word =
-      ap (λ (words : List Token). slice_get words word) (is.words read) ∙ slice_get-map (moved item.start) (tokens_of Bytes read.words) word
-      ∙ ap (option_map (moved item.start)) (slice_get-map (token_of Bytes) read.words word)
+      grind (arith, common_steps, slice_get-map (moved item.start) (tokens_of Bytes read.words) word, slice_get-map (token_of Bytes) read.words word) steps 200000
 
   -- where a word begins
   pub begins_there : (word : ℕ) → start_of one (slice_get one.words word) ≡ item.start + word_start (slice_get read.words word)
-  begins_there word = by (slice_get read.words word) (word_there word)
-    where
-      by : (there : Option Word) → slice_get one.words word ≡ option_map (moved item.start) (option_map (token_of Bytes) there)
-          → start_of one (slice_get one.words word) ≡ item.start + word_start there
-      by None e = ap (start_of one) e ∙ is.begins ∙ omega arith
-      by (Some word) e = ap (start_of one) e
+  begins_there word = grind (arith, common_steps, word_there word) steps 200000
 
   -- how it is spelled
   pub spelled_there : (word : ℕ) → spelled (slice_get one.words word) ≡ word_spelling Bytes (slice_get read.words word)
-  spelled_there word = by (slice_get read.words word) (word_there word)
-    where
-      by : (there : Option Word) → slice_get one.words word ≡ option_map (moved item.start) (option_map (token_of Bytes) there)
-          → spelled (slice_get one.words word) ≡ word_spelling Bytes there
-      by None e = ap spelled e
-      by (Some word) e = ap spelled e
+  spelled_there word = grind (arith, common_steps, word_there word) steps 200000
 
 module _ (files : FilesView) (item : store.Item) (one : Located) (is : IsLocated files item one) where
   placed : (word letter : ℕ) (at : At) → HasKeyedPlace files item word letter at → letter ≤ length (spelled (slice_get one.words word)) → HasPlace (plain files) one word letter at
@@ -60,10 +49,8 @@ module _ (files : FilesView) (item : store.Item) (one : Located) (is : IsLocated
       }
 
   shown_there : (word : ℕ) (shown : Shown) → IsKeyedShown files item word shown → IsShown (plain files) one word shown
-  shown_there word shown keyed = record {
-    has_place = placed word 0 shown.at keyed.has_place (omega arith);
-    is_word = keyed.is_word ∙ sym (spelled_there files item one is keyed.has_place.is_byte.read word);
-  }
+  shown_there word shown keyed =
+      grind (arith, common_steps, placed word 0 shown.at keyed.has_place (omega arith), spelled_there files item one is keyed.has_place.is_byte.read word) steps 200000
 
 -- ---- the items of files
 
@@ -103,7 +90,4 @@ module _ (spots : SpotsAreIn) (files : FilesView) (found : List store.Item) (ite
       record { word = keyed.word; fault = keyed.fault; item = one.0; there = one.1; is_shown = shown_there files keyed.item one.0 one.2 keyed.word shown keyed.is_shown }
 
   pub all_there : (all : List Told) → AreKeyedTold files found (base_of items) all → AreRightlyTold (plain files) items all
-  all_there all keyed = record {
-    count = keyed.count ∙ length-map items (λ (item : Located). item.said);
-    each = λ n one there. told_there n one (keyed.each n one there);
-  }
+  all_there all keyed = grind (arith, common_steps, length-map, told_there) steps 200000

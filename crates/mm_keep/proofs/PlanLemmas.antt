@@ -1,5 +1,5 @@
 -- What a plan says of an item, and what is carried by it.
-use Rattle.std.proofs.{Common.{arith, ◌≡◌, ℕ, ◌<◌, true, false, Option, Some, None, List, [], ◌∷◌, ◌++◌, length, sym, ◌∙◌, ap, subst, slice_get}, lemmas.{Grind.{common_steps}, Bool.{false≢true}}}
+use Rattle.std.proofs.{Common.{rules, arith, ◌≡◌, ℕ, true, false, Option, Some, None, List, [], ◌∷◌, ◌++◌, length, sym, ◌∙◌, ap, subst, slice_get}, lemmas.{Grind.{common_steps}, Bool.{false≢true}}}
 use Rattle.std.proofs.lemmas.Option.{none-some, same_Some}
 use Rattle.mm_proof.specs.{mm_store.Language.FilesView.{FilesView}, mm_frame.{Language.{Base.{BaseView, is_proof_at, is_shown_at}, Answering.{IsBaseBy}}, declared.base.Base.{Base}}}
 use Rattle.mm_proof.specs.{Language.{BaseMarks.{ItemMark, MarksView, IsMark, mark_at}, ViewLaws.{SameViewSameVerdict, SameViewSameCites}}, mm_verdict.Language.DecodingLaws.{LabelsAreOwn}}
@@ -55,8 +55,7 @@ kept_by_one own base copy checked plan ran can i j k a b = grind (arith, shown c
 -- what is marked of an item of the new base
 pub mark_here : (names : List (List ℕ)) (files : FilesView) (old new : Base) (marks : MarksView) (j : ℕ) → HasItemBothRead names files old new j → AreMarksBy names old new marks → (base copy : BaseView) → AreBothRead names files old new base copy
     → IsMark base copy j (mark_at marks j)
-mark_here names files old new marks j has are base copy both =
-    (are base copy both.old_is.base both.new_is.base).each j (subst (λ n. j < n) (one_count names names has.1 copy new has.2.new_is.base both.new_is.base) has.3)
+mark_here names files old new marks j has are base copy both = search (rules, one_count)
 
 -- what holds of each element, and of one more
 pub each_more : {X : Type 0} (P : ℕ → X → Type 0) (xs ys : List X) (y : X) → ys ≡ xs ++ y ∷ [] → ((k : ℕ) (x : X) → slice_get xs k ≡ Some x → P k x) → P (length xs) y → (k : ℕ) (x : X) → slice_get ys k ≡ Some x → P k x

@@ -1,9 +1,8 @@
 -- Runs by a plan: one item more.
-use Rattle.std.proofs.lemmas.{Grind.{common_steps}, Bool.{false≢true}, List.{length-replicate, length_push, get_or_append_left, get_or-replicate}}
+use Rattle.std.proofs.Common.{rules, ◌≡◌, ℕ, ◌<◌, ◌≤◌, ◌+◌, ◌↔◌, ◌⊎◌, true, Option, Some, None, List, [], ◌∷◌, ◌++◌, length, get_or, replicate, sym, ◌∙◌, ap, subst, arith, inl, inr, slice_get}
+use Rattle.std.proofs.{Common.{Contains}, lemmas.{Grind.{common_steps}, Bool.{false≢true}, List.{length-replicate, length_push, get_or_append_left, get_or-replicate}}}
 use Rattle.std.proofs.lemmas.List.{Elements.{Contains-get_or, Contains-append_left, Contains-push, Contains-push_cases}, Quantifiers.{all_pairs_push}, Sums.{sum_by_push}}
-use Rattle.std.proofs.lemmas.Option.{get_or_from_slice_get, slice_get-get_or, slice_get_within, same_Some}
-use Rattle.std.proofs.Common.{◌≡◌, ℕ, ◌<◌, ◌≤◌, ◌+◌, ◌↔◌, ◌⊎◌, true, Option, Some, None, List, [], ◌∷◌, ◌++◌, length, get_or, replicate, sym, ◌∙◌, ap, subst, arith, inl, inr, slice_get, Contains}
-use Rattle.std.{proofs.Math.Seq.{get_or-append_seam}, specs.List.{AllZip}}
+use Rattle.std.{proofs.{lemmas.Option.{get_or_from_slice_get, slice_get-get_or, slice_get_within, same_Some}, Math.Seq.{get_or-append_seam}}, specs.List.{AllZip}}
 use native.Mathlib.Decide.{dec_lt}
 use Rattle.mm_proof.specs.{mm_frame.Language.Base.{BaseView, is_proof_at}, mm_verdict.Language.{VerdictAt.{AreDoneAt}, Work.{Recorded}}}
 use Rattle.mm_keep.specs.{Language.Runs.{AreThose, AreRuns, AreStepsOf, IsRun}, Code.{KeptCheck.{Kept}, KeptSession.{AreChecked}}}
@@ -74,7 +73,7 @@ recorded_skip new plan j before after are not e = subst (λ (w : Recorded). AreR
 
 recorded_run : (new : BaseView) (plan : List (Option ℕ)) (j : ℕ) (before after : Recorded) → AreRecorded new plan j before → RunsBy new plan j → RecordsRun new j before after → AreRecorded new plan (j + 1) after
 recorded_run new plan j before after are runs run =
-    grind (arith, common_steps, those_more (RunsBy new plan) j before.runs are.those runs, steps_more new before.runs before.steps j run.count are.steps run.done) steps 200000
+    search (rules, steps_more new before.runs before.steps j run.count are.steps run.done, those_more (RunsBy new plan) j before.runs are.those runs)
 
 -- one item more is recorded, if it runs
 pub recorded_more : (new : BaseView) (plan : List (Option ℕ)) (j : ℕ) (from : Option ℕ) (before after : Recorded) → slice_get plan j ≡ Some from → RecordsIf new from j before after → AreRecorded new plan j before → AreRecorded new plan (j + 1) after

@@ -1,8 +1,8 @@
 -- Where the words of items are, and the spots of their proofs.
+use Rattle.std.proofs.Common.{rules, ◌≤◌, ◌≡◌, ℕ, suc, ◌+◌, Some, List, [], ◌∷◌, ◌++◌, length, take, drop, slice_get, refl, sym, ap, ◌∙◌, subst, arith, slice_range, slice_index_or}
 use Rattle.std.proofs.lemmas.{Grind.{common_steps}, Bool.{cases_Bool}, Option.{same_Some, slice_get-map}, List.{length-take-le, length-drop, length-map}}
-use Rattle.std.proofs.Common.{◌≤◌, ◌≡◌, ℕ, suc, ◌+◌, Some, List, [], ◌∷◌, ◌++◌, length, take, drop, slice_get, refl, sym, ap, ◌∙◌, subst, arith, slice_range, slice_index_or}
 use Rattle.std.specs.{List.{AllByRecursion, flat_map, prefix_len}, Option.{option_map}}
-use Rattle.mm_proof.specs.mm_text.{declared.word.Word.{Word}, Language.{Place.{line_at, column_at}, Run.{Run, is_white, ends_run, with_first_byte, runs_from}}}
+use Rattle.mm_proof.specs.mm_text.{declared.word.Word.{Word}, Language.{Place.{line_at, column_at}, Run.{Run, with_first_byte, runs_from}}}
 use Rattle.mm_proof.specs.mm_text.Language.{Reading.{HasWords, Segment, Single, Comment, IsSegment, segment_runs, segment_words}, Unit.{Token, tokens_of}}
 use Rattle.mm_proof.specs.mm_store.Language.{FilesView.{FilesView, plain, plain_file, text_of}, FileFacts.{CanBeRead, StandsIn, IsByte, IsLive, piece_offset}}
 use Rattle.mm_proof.specs.mm_statement.Language.{Item.{Kind, Said}, Statement.{Says, kind_of, is_plain, token_names, symbols_from, symbols_in, proof_in, item_of}}
@@ -25,10 +25,7 @@ front_begins bound at b rs h k = grind (arith, common_steps) steps 200000
 -- the runs of bytes begin in them
 runs_begin : (bound at : ℕ) (text : List ℕ) → at + length text ≤ bound → RunsBegin bound (runs_from at text)
 runs_begin bound at [] h = tt
-runs_begin bound at (b ∷ bytes) h =
-    let here : at ≤ bound = omega (arith, h) in
-    let rest = runs_begin bound (at + 1) bytes (omega (arith, h)) in
-    grind (arith, common_steps, cases_Bool (is_white b), cases_Bool (ends_run bytes), front_begins bound at b (runs_from (at + 1) bytes) here rest) steps 200000
+runs_begin bound at (b ∷ bytes) h = search (rules, runs_begin bound (at + 1) bytes (omega (arith, h)), cases_Bool, front_begins)
 
 behind_begin : (bound : ℕ) (front later : List Run) → RunsBegin bound (front ++ later) → RunsBegin bound later
 behind_begin bound [] later h = h

@@ -19,7 +19,7 @@ read_at names files code n item has e = (says_at names files code has.0 n item h
 -- that it is where it says
 pub stands_at : (names : List (List ℕ)) (files : FilesView) (code : Base) (n : ℕ) (item : store.Item) → HasItemOf names files code n → slice_get code.items n ≡ Some item → StandsIn files item
 stands_at names files code n item has e =
-    grind (arith, common_steps, get_or_from_slice_get code.items n item item e, has.1.stand n item (slice_get_within code.items n item e)) steps 200000
+    grind (arith, common_steps, get_or_from_slice_get code.items n item item e, slice_get_within code.items n item e) steps 200000
 
 -- ---- what is reported of the items, one after another
 

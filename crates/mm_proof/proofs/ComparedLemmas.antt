@@ -1,5 +1,5 @@
 -- What was compared of two bases holds of all items that have the numbers of those that were compared.
-use Rattle.std.proofs.{lemmas.{Bool.{and_parts, Decides.{Decides-eqb}}, Option.{same_Some}}, Common.{◌≡◌, ℕ, HashMap, cond, Bool, true, false, Option, Some, List, refl, sym, ◌∙◌, subst}}
+use Rattle.std.proofs.{Common.{arith, ◌≡◌, ℕ, HashMap, cond, Bool, true, false, Option, Some, List, refl, sym, ◌∙◌, subst}, lemmas.{Grind.{common_steps}, Bool.{and_parts}, Option.{same_Some}}}
 use Rattle.std.specs.{HashMap.{get}, Prelude.{◌↔◌, nat_eq}}
 use Rattle.mm_frame.specs.Language.{Base.{BaseView, ShareMandatory, before, frame_at, is_framed_at, is_proof_at, is_shown_at}, Answering.{HasNumber, IsBase}, Framing.{active_pairs}}
 use Rattle.mm_frame.specs.declared.base.Base.{Base}
@@ -40,11 +40,7 @@ answered old new numbers Share shared i j both same told mine yours n m has is n
 
 -- two numbers that are tested are the same two
 numbers_are : (a b : ℕ × ℕ) → same_numbers a b ≡ true → a ≡ b
-numbers_are a b e =
-    let parts = and_parts (nat_eq a.0 b.0) (nat_eq a.1 b.1) e in
-    let first = (Decides-eqb a.0 b.0).0 parts.0 in
-    let second = (Decides-eqb a.1 b.1).0 parts.1 in
-    λ i. (first i, second i)
+numbers_are a b e = grind (arith, common_steps, and_parts (nat_eq a.0 b.0) (nat_eq a.1 b.1) e) steps 200000
 
 -- one more answer
 pub answered_more : {S : Type 0} (old new : Base) (numbers : Base → List (Option ℕ)) (Share : BaseView → BaseView → ℕ → ℕ → Type 0) (earlier later : HashMap (ℕ × ℕ) Bool S) (both : ℕ × ℕ) (same : Bool)

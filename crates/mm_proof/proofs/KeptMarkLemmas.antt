@@ -3,8 +3,7 @@ use Rattle.std.proofs.lemmas.{Grind.{common_steps}, Bool.{false≢true, and_part
 use Rattle.std.proofs.lemmas.List.{get_or_push, get_or_append_left}
 use Rattle.std.proofs.Common.{◌≡◌, ◌<◌, ℕ, suc, cond, slice_index_or, ◌+◌, Bool, true, false, ◌⊎◌, inl, inr, Option, Some, None, List, [], ◌∷◌, ◌++◌, length, map, slice_get, refl, sym, ◌∙◌, ap, subst}
 use Rattle.std.{proofs.{Common.{arith, length-append}, Math.Decide.{ℕ_discrete}}, specs.Prelude.{◌↔◌, is_some}}
-use Rattle.mm_frame.specs.{Language.{Base.{BaseView, said_at, is_shown_at, is_sound_at}, Resolving.{IsCarrier}, Answering.{IsBaseBy}}, mm_machine.Language.Frame.{Symbol, AreSamePairs}}
-use Rattle.mm_frame.specs.{mm_statement.Language.Item.{is_labelled}, declared.base.Base.{Base}}
+use Rattle.mm_frame.specs.{Language.{Base.{BaseView, said_at, is_shown_at}, Resolving.{IsCarrier}, Answering.{IsBaseBy}}, mm_machine.Language.Frame.{Symbol, AreSamePairs}, declared.base.Base.{Base}}
 use Rattle.mm_proof.specs.{Language.BaseMarks.{ItemMark, MarksView, IsMark, HaveOneLabel, KeepsLabels, AreMarks, no_mark, mark_at}, Code.InStep.{changed_behind}}
 use Rattle.mm_proof.specs.Code.KeptMarks.{AreTheorems, ShareFrame, SharePairs, AreItemMarks, IsHypothesisMark, AreHypothesisMarks}
 use Rattle.mm_proof.specs.declared.mark.Mark as code
@@ -28,12 +27,7 @@ some_there o e = grind (arith, common_steps) steps 200000
 
 -- it has a label
 pub shown_label : (names : List (List ℕ)) (view : BaseView) (code : Base) (i : ℕ) → IsBaseBy names view code → is_shown_at view i ≡ true → (label : List ℕ) × ((said_at view i).label ≡ Some label)
-shown_label names view code i is e =
-    let within = shown_within view i e in
-    let row = got code.rows i (omega (arith, within, is.rows.count)) in
-    let told = is.rows.each i row.0 row.1 in
-    let some = some_there row.0.0 (told.labelled ∙ (and_parts (is_sound_at view i) (is_labelled (said_at view i).kind) e).1) in
-    (some.0, sym told.label ∙ some.1)
+shown_label names view code i is e = grind (arith, common_steps, and_parts, got, shown_within, some_there) steps 200000
 
 -- it is the item of the old base that carries the label
 pub one_label : (base copy : BaseView) (i j : ℕ) (label : List ℕ) → is_shown_at copy j ≡ true → (said_at copy j).label ≡ Some label → IsCarrier base label i ↔ HaveOneLabel base copy i j

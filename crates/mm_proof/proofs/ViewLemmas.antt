@@ -1,8 +1,8 @@
 -- Equal views have equal verdicts, and their proofs cite by the same words.
-use Rattle.std.{proofs.{Common.{arith, ℕ, Result, Ok, Err, List, [], ◌∷◌, map, sym, subst, ap, ◌∙◌}, lemmas.Grind.{common_steps}}, specs.List.{AllZip, AllByRecursion}}
+use Rattle.std.{proofs.{Common.{rules, arith, ℕ, Result, Ok, Err, List, [], ◌∷◌, map, sym, subst}, lemmas.Grind.{common_steps}}, specs.List.{AllZip, AllByRecursion}}
 use Rattle.mm_frame.specs.{Language.{Base.{BaseView, AreLabelled, before, said_at, frame_at}, Framing.{resolve}}, mm_machine.Language.Frame.{Symbol, Mandatory, Setting, LabelMeaning}}
 use Rattle.mm_proof.specs.{Code.KeptMarks.{ShareHypotheses, SharePairs, ShareProof}, Language.ViewLaws.{SameViewSameCites, SameViewSameVerdict}}
-use Rattle.mm_verdict.specs.Language.{BaseLabels.{setting_at}, Citing.{cites}, Decoding.{decoding}, DecodingLaws.{SameCitesSame, SameDecodesSame}, ItemLaws.{MandatoryLabelsMean, MeansHypothesis}}
+use Rattle.mm_verdict.specs.Language.{BaseLabels.{setting_at}, Decoding.{decoding}, DecodingLaws.{SameCitesSame, SameDecodesSame}, ItemLaws.{MandatoryLabelsMean, MeansHypothesis}}
 use Rattle.mm_verdict.specs.Language.{SameToDecode.{AreSameToDecode, IsSameHypothesis, labels_named}, VerdictAt.{mandatory_labels, statement_at, decoding_at}, View.{view_at, AreSameViews}}
 use Rattle.mm_verdict.specs.mm_machine.{Language.{Laws.{SameProofSameVerdict}, SameProof.{AreSameMeaning, IsSameDecoding}, Verdict.{Decoded, IsVerdict}}, declared.Verdict.{Verdict}}
 use Rattle.mm_verdict.specs.mm_machine.declared.step.ProofFault.{ProofFault}
@@ -56,11 +56,7 @@ verdict_kept mean decodes same base copy i j f g v verdict h =
     (moved same place other (statement_at base i) (decoding_at base i) (decoding_at copy j) verdict there h)
 
 pub cites_kept : MandatoryLabelsMean → SameCitesSame → SameViewSameCites
-cites_kept mean same base copy i j f g v =
-    let other = setting_at copy j in
-    let yours = mandatory_labels copy j in
-    same (setting_at base i) other (mandatory_labels base i) yours (said_at base i).proof (to_decode mean base copy i j f g v)
-    ∙ ap (λ (words : List (List ℕ)). cites other words (decoding other yours words)) v.proof
+cites_kept mean same base copy i j f g v = search (rules, to_decode mean base copy i j f g v)
 
 -- ---- what is compared of two views
 

@@ -1,5 +1,5 @@
 -- Files by number: their names; and what is reported of an item names one of them.
-use Rattle.std.proofs.{Common.{◌≡◌, ℕ, ◌<◌, List, [], Some, length, slice_get, sym, ap, ◌∙◌, subst, slice_index_or}, lemmas.Option.{slice_get-map, slice_get_within, get_or_from_slice_get}}
+use Rattle.std.proofs.{Common.{rules, ◌≡◌, ℕ, ◌<◌, List, [], Some, length, slice_get, sym, ap, ◌∙◌, subst, slice_index_or}, lemmas.Option.{slice_get-map, slice_get_within, get_or_from_slice_get}}
 use Rattle.std.{proofs.lemmas.{List.{length-map}, Simd.{map-map}}, specs.Option.{option_map}}
 use Rattle.mm_keep.specs.{mm_store.Language.FilesView.{KeyedFile, FilesView, File, plain, plain_file}, mm_statement.Language.Database.{Located}, declared.finding.At.{At}}
 use Rattle.mm_keep.specs.Language.{Told.{Told, Incomplete, Wrong, Fault, IsRightlyTold}, WordPlaces.{HasPlace}}
@@ -7,10 +7,7 @@ use Rattle.mm_report.specs.{Code.InFiles.{IsInFiles}, Language.Report.{names_of}
 
 -- the name of a file, by its number
 pub name_is : (files : FilesView) (n : ℕ) (name : List ℕ) → option_map (λ (file : KeyedFile). file.name) (slice_get files.keyed n) ≡ Some name → slice_index_or (names_of (plain files)) n [] ≡ name
-name_is files n name is =
-    let there : slice_get (names_of (plain files)) n ≡ Some name =
-    ap (λ names. slice_get names n) (map-map (λ (file : File). file.name) (plain_file files.pieces) files.keyed) ∙ slice_get-map (λ (file : KeyedFile). file.name) files.keyed n ∙ is in
-    get_or_from_slice_get (names_of (plain files)) n name [] there
+name_is files n name is = search (rules, get_or_from_slice_get, map-map, slice_get-map)
 
 -- a number is that of a file, with keys and without
 pub keyed_within : (files : FilesView) (n : ℕ) → n < length (plain files) → n < length files.keyed

@@ -1,6 +1,6 @@
 -- A report without a line: no item is at fault, and each theorem is derived.
-use Rattle.std.proofs.lemmas.{Grind.{common_steps}, Bool.{and_parts}, List.{length-map}, Option.{slice_get-get_or, same_Some}}
-use Rattle.std.proofs.Common.{◌≡◌, ◌<◌, ℕ, zero, suc, Bool, true, false, Some, List, [], ◌∷◌, length, get_or, slice_get, sym, ap, ◌∙◌, arith}
+use Rattle.std.proofs.{Common.{rules, ◌≡◌, ◌<◌, ℕ, zero, suc, Bool, true, false, Some, List, [], ◌∷◌, length, get_or, slice_get, sym, ap, ◌∙◌, arith}, lemmas.{Grind.{common_steps}, Bool.{and_parts}}}
+use Rattle.std.proofs.lemmas.{List.{length-map}, Option.{slice_get-get_or, same_Some}}
 use Rattle.mm_keep.specs.{mm_store.Language.FilesView.{File}, mm_statement.Language.{Database.{Located}, Item.{Said, is_kind, Theorem}}, mm_frame.Language.Base.{base_of, is_sound_at, said_at}}
 use Rattle.mm_keep.specs.Language.{Laws.{ProvedIsDerivable}, Told.{Told, Quiet, AnAxiom, Proved, IsRightlyTold}}
 use Rattle.mm_report.specs.Language.{Laws.{CleanIsDerived, IsInOrder}, Report.{lines, names_of}}
@@ -25,10 +25,7 @@ no_line names items all e l n one there = absurd (cc)
 in_order : ProvedIsDerivable → (files : List File) (items : List Located) (i : ℕ) (one : Told) → has_none one ≡ true → IsRightlyTold files items i one → IsInOrder (base_of items) i
 in_order law files items i Quiet none f = record { sound = f.sound; derivable = λ is. absurd (grind (arith, common_steps) steps 200000) }
 in_order law files items i AnAxiom none f = record { sound = f.sound; derivable = λ is. absurd (cc) }
-in_order law files items i Proved none f = record {
-  sound = (and_parts (is_sound_at (base_of items) i) (is_kind Theorem (said_at (base_of items) i).kind) f.proof).0;
-  derivable = λ is. law files items i f;
-}
+in_order law files items i Proved none f = search (rules, and_parts (is_sound_at (base_of items) i) (is_kind Theorem (said_at (base_of items) i).kind) f.proof)
 in_order law files items i one none f = absurd (cc)
 
 pub clean_is_derived : ProvedIsDerivable → CleanIsDerived

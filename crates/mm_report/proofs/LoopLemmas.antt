@@ -1,7 +1,7 @@
 -- A script that is answered command by command.
-use Rattle.std.proofs.Common.{arith, ◌≡◌, ℕ, zero, suc, true, Option, Some, None, unwrap_or, List, [], ◌∷◌, ◌++◌, inl, inr, drop, take, replicate, refl, sym, ap, ◌∙◌, subst, append_assoc, append-nil}
-use Rattle.std.{proofs.{Common.{◌≢◌, Result, Err, IfErr, IfSome, IsErrOf}, lemmas.Grind.{common_steps}, KnownBytes.{Appends-nil, Appends-trans, Consumes-nil, Consumes-trans}}, specs.Result.{IsErrAnd}}
-use Rattle.std.specs.{List.{AllByRecursion}, Io.KnownBytes.{Consumes, IsAtEnd}}
+use Rattle.std.proofs.Common.{rules, arith, ◌≡◌, ℕ, zero, suc, true, Option, Some, None, unwrap_or, List, [], ◌∷◌, ◌++◌, inl, inr, drop, take, replicate, refl, sym, ap, ◌∙◌, subst, append_assoc}
+use Rattle.std.proofs.{Common.{append-nil, ◌≢◌, Result, Err, IfErr, IfSome, IsErrOf}, lemmas.Grind.{common_steps}, KnownBytes.{Appends-nil, Appends-trans, Consumes-nil, Consumes-trans}}
+use Rattle.std.specs.{Result.{IsErrAnd}, List.{AllByRecursion}, Io.KnownBytes.{Consumes, IsAtEnd}}
 use Rattle.mm_script.specs.declared.{error.ScriptError.{ScriptError}, input.Input.{Input}, command.{CommandAt.{CommandAt}, Complete.{Complete}}, stream.Writing.{Writing}}
 use Rattle.mm_script.specs.{declared.read_stream.Reading.{Reading}, Language.Commands.{pending, ReadsOn, IsNextCommand, IsWholeCommand, IsLast, IsWholeOrLast, HasNoEntry, StopsSo, rest_of_script}}
 use Rattle.mm_script.specs.Language.Script.{Command, End, Done, CutShort, BadLine, Entry, Blank, Given, IsGood, IsGoodEntry, AreRead, IsLongestReading, LacksFeed, entries_bytes, command_bytes}
@@ -35,8 +35,7 @@ commands_join (Given command ∷ entries) n = ap (λ commands. command ∷ comma
 -- one command more is answered
 pub one_more : (old between new : SessionView) (entries : List Entry) (command : Command) (answers one : List ℕ) → AreAnswers old (commands_of entries) answers between
     → IsAnswer between command one new → AreAnswers old (commands_of (entries ++ Given command ∷ [])) (answers ++ one) new
-one_more old between new [] command answers one are answer =
-    (one, new, [], subst (λ (s : SessionView). IsAnswer s command one new) are.1 answer, (refl, refl), ap (λ (w : List ℕ). w ++ one) are.0 ∙ sym (append-nil one))
+one_more old between new [] command answers one are answer = search (rules, append-nil one)
 one_more old between new (Blank ∷ entries) command answers one are answer = one_more old between new entries command answers one are answer
 one_more old between new (Given first ∷ entries) command answers one are answer =
     let rest = one_more are.1 between new entries command are.2 one are.4 answer in
@@ -124,11 +123,7 @@ module _ (joins : ReadingsJoin) (done : CommandsLeaveNothing) (old session : Ses
   -- what is read, and what is left after it, is the script
   script_is : (whole : Option (List ℕ)) (bytes : List ℕ) → Consumes whole left bytes → IfSome whole (λ script. rest_of_script bytes left ≡ script)
   script_is None bytes consumes = tt
-  script_is (Some script) bytes consumes = by left consumes
-    where
-      by : (more : Option (List ℕ)) → Consumes (Some script) more bytes → rest_of_script bytes more ≡ script
-      by None c = absurd c
-      by (Some rest) c = sym c
+  script_is (Some script) bytes consumes = grind (arith, common_steps) steps 200000
 
   -- if nothing is left, that is what is read
   ended_there : (bytes : List ℕ) → IsAtEnd left → bytes ≡ rest_of_script bytes left
@@ -253,8 +248,7 @@ when_err {T} {E} r P x h e = subst (λ (s : Result T E). IfErr s P) e h
 -- bytes are read on, up to a command or the end
 pub reads_on : (joins : ReadingsJoin) (done : CommandsLeaveNothing) (old session : SessionView) (all left before after more : Option (List ℕ)) (input now : Input) → ReadsOn input now left more
     → HasAnswered old session all left before after (pending input) → HasAnswered old session all more before after (pending now)
-reads_on joins done old session all left before after more input now reads so =
-    read_more joins done old session all left before after (pending input) (pending now) reads.part reads.blanks more reads.consumes reads.are so
+reads_on joins done old session all left before after more input now reads so = search (rules, read_more)
 
 module _ {R W : Type 0} (joins : ReadingsJoin) (done : CommandsLeaveNothing) (remaining : R → Option (List ℕ)) (contents : W → Option (List ℕ))
     (begun session : SessionView) (all before : Option (List ℕ)) (now : Input) (left : Reading R) (a : Writing W) where

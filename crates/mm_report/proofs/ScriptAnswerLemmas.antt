@@ -46,8 +46,7 @@ same_edit : AnswerLaws → (s new copy : SessionView) (edit : Asked) (x y : List
 same_edit laws s new copy edit x y (inl f) (inl g) = same_ran laws s new copy x y (laws.edits edit s.files new.files copy.files f.0 g.0) f.1 g.1
 same_edit laws s new copy edit x y (inl f) (inr g) = absurd (g.told (laws.refused edit s.files new.files g.error f.0 g.refused))
 same_edit laws s new copy edit x y (inr f) (inl g) = absurd (f.told (laws.refused edit s.files copy.files f.error g.0 f.refused))
-same_edit laws s new copy edit x y (inr f) (inr g) =
-    (f.answer_is ∙ ap (refusal_line edit) (laws.reason edit s.files f.error g.error f.told g.told f.refused g.refused) ∙ sym g.answer_is, f.unchanged ∙ sym g.unchanged)
+same_edit laws s new copy edit x y (inr f) (inr g) = grind (arith, common_steps) steps 200000
 
 -- several edits give one list of files
 same_batch : AnswerLaws → (edits : List Asked) (files a b : List File) → IsBatchOf edits files a → IsBatchOf edits files b → a ≡ b
@@ -135,12 +134,6 @@ same_answers laws s new copy (command ∷ commands) x y f g =
     let first = same_answer laws s f.1 g.1 command f.0 g.0 f.3 g.3 in
     let rest = same_answers laws g.1 new copy commands f.2 g.2 (subst (λ (next : SessionView). AreAnswers next commands f.2 new) first.1 f.4) g.4 in
     (f.5 ∙ (λ i. first.0 i ++ rest.0 i) ∙ sym g.5, rest.1)
-
-pub same_script : AnswerLaws → OneScriptAnswer
-same_script laws s new copy script x y end ended f g =
-    let read = laws.reading script f.entries g.entries f.rest g.rest f.reading g.reading in
-    let all = same_answers laws s new copy (commands_of g.entries) x y (subst (λ (es : List Entry). AreAnswers s (commands_of es) x new) read.0 f.answered) g.answered in
-    (all.0, all.1, laws.ends g.rest end ended (subst (λ (rest : List ℕ). EndsSo rest end) read.1 f.ends) g.ends)
 
 -- ---- the answers to the first commands
 

@@ -122,9 +122,7 @@ module _ {W : Type 0} (contents : W → Option (List ℕ)) (session : SessionVie
   -- the lines of all items, whole
   all_lines : (tally : Counts) (is : AreAllWritten session (written contents a) (written contents b) tally)
       → Appends (written contents a) (written contents b) (lines (names_of session.files) (base_of is.0) is.2.all)
-  all_lines tally is =
-      let whole : take (length is.0) (base_of is.0) ≡ base_of is.0 = take_all (length is.0) (base_of is.0) (omega (arith, as_many is.0)) in
-      subst (λ (base : List Said). Appends (written contents a) (written contents b) (lines (names_of session.files) base is.2.all)) whole is.2.appends
+  all_lines tally is = grind (arith, common_steps, as_many, take_all) steps 200000
 
   -- or in the summary, after the lines of all items
   pub summary_fails : (tally : Counts) → AreAllWritten session (written contents a) (written contents b) tally → Stops contents b c (summary tally) → FailsWithin contents session a c

@@ -1,5 +1,5 @@
 -- Edits that are in the bytes of a script: their lines, and their texts.
-use Rattle.std.proofs.Common.{[], ◌≡◌, ℕ, ◌+◌, ◌-◌, ◌≤◌, false, List, ◌∷◌, ◌++◌, length, length-append, drop, replicate, sym, ap, ◌∙◌, subst, arith, ◌⊎◌, true, Option, Some, None, IfSome}
+use Rattle.std.proofs.Common.{[], ◌≡◌, ℕ, ◌+◌, ◌-◌, ◌≤◌, false, List, ◌∷◌, ◌++◌, length, length-append, drop, replicate, sym, ap, subst, arith, ◌⊎◌, true, Option, Some, None, IfSome}
 use Rattle.std.{proofs.lemmas.{Grind.{common_steps}, List.{append-nil, length-drop, length-take, length-replicate, drop_all, Folds.{drop_split}}}, specs.Io.KnownBytes.{IsAtEnd}}
 use Rattle.mm_text.specs.Language.Asked.{Asked, edited_text}
 use Rattle.mm_script.specs.declared.{command.{EditAt.{EditAt}, PendingRange.{PendingRange}}, input.Input.{Input}, script_lines.LineAt.{LineAt}}
@@ -49,11 +49,7 @@ module _ (bytes : List ℕ) (line : LineAt) (edit : EditAt) (text : PendingRange
 pub fed_line : (a b : Input) (u v : Option (List ℕ)) (line : LineAt) → IsLineAt (pending a) u line → InputGrows a b u v → line.fed ≡ true
     → drop line.start (pending b) ≡ line_bytes (pending a) line ++ 10 ∷ drop (line.end + 1) (pending b)
 fed_line a b u v line is grows fed =
-    let some : length (drop line.end (pending a)) ≡ length (drop (line.end + 1) (pending a)) + 1 = omega (arith, ap length (is.fed fed)) in
-    let within : line.end + 1 ≤ length (pending a) = omega (arith, some, length-drop line.end (pending a), is.within) in
-    let part = part_grown a b u v line.start line.end grows is.ordered is.within in
-    let rest = rest_grown a b u v line.end grows is.within in
-    grind (arith, common_steps, drop_split (pending b) line.start line.end is.ordered, part, rest) steps 200000
+    grind (arith, common_steps, drop_split (pending b) line.start line.end is.ordered, length-drop line.end (pending a), part_grown a b u v line.start line.end grows is.ordered is.within, rest_grown a b u v line.end grows is.within) steps 200000
 
 -- and one that is the last
 pub unfed_line : (bytes : List ℕ) (left : Option (List ℕ)) (line : LineAt) → IsLineAt bytes left line → line.fed ≡ false → drop line.start bytes ≡ line_bytes bytes line
@@ -63,15 +59,13 @@ pub text_line_last : (bytes : List ℕ) (left : Option (List ℕ)) (line : LineA
     → SaysEdit bytes line edit → text_part edit ≡ Some text → IsLineAt bytes left line → line.fed ≡ false
     → IsAtEnd left × (IsTextShort (drop line.start bytes) ⊎ IsTextLine (drop line.start bytes))
 text_line_last bytes left line edit text says is at unfed =
-    grind (arith, common_steps, of_this_line bytes line edit text says is, unfed_line bytes left line at unfed, at.unfed unfed) steps 200000
+    grind (arith, common_steps, of_this_line bytes line edit text says is, unfed_line bytes left line at unfed) steps 200000
 
 -- a line whose text has a wrong end, or is not all there; or is there
 module _ (a b : Input) (u v : Option (List ℕ)) (line : LineAt) (edit : EditAt) (text : PendingRange) (says : SaysEdit (pending a) line edit)
     (is : text_part edit ≡ Some text) (at : IsLineAt (pending a) u line) (grows : InputGrows a b u v) (fed : line.fed ≡ true) where
   behind : drop (line.end + 1) (pending b) ≡ bytes_of_part (pending b) text ++ drop text.end (pending b)
-  behind =
-      let begins = text_begins (pending a) line edit text says is in
-      ap (λ (n : ℕ). drop n (pending b)) (sym begins.0) ∙ drop_split (pending b) text.start text.end begins.1
+  behind = grind (arith, common_steps, drop_split, text_begins) steps 200000
 
   pub text_fails : (IsOtherByte (pending b) text.end → IsTextBad (drop line.start (pending b))) × (length (pending b) ≤ text.end → IsTextShort (drop line.start (pending b)))
   text_fails = (

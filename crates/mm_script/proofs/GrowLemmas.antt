@@ -1,6 +1,6 @@
 -- Bytes that are read on keep what was in them.
-use Rattle.std.proofs.Common.{[], ◌≡◌, ◌≢◌, ℕ, zero, suc, ◌+◌, ◌-◌, ◌<◌, ◌≤◌, true, false, List, ◌∷◌, ◌++◌, append_assoc, length, length-append, take, drop, replicate, refl, sym, ap, ◌∙◌, subst}
-use Rattle.std.proofs.{Common.{arith, Option, ◌⊎◌, get_or, Result, Err, eq-eqb, ◌==◌, slice_index, slice_range}, lemmas.Grind.{common_steps}}
+use Rattle.std.proofs.Common.{rules, [], ◌≡◌, ◌≢◌, ℕ, zero, suc, ◌+◌, ◌-◌, ◌<◌, ◌≤◌, true, false, List, ◌∷◌, ◌++◌, append_assoc, length, length-append, take, drop, replicate, refl, sym, ap, ◌∙◌}
+use Rattle.std.proofs.{Common.{subst, arith, Option, ◌⊎◌, get_or, Result, Err, eq-eqb, ◌==◌, slice_index, slice_range}, lemmas.Grind.{common_steps}}
 use Rattle.std.proofs.{lemmas.List.{append-nil, length-drop, take-append-le, drop-append-le, drop-drop, drop_more, take_all, take_rest, Folds.{drop_split}}, KnownBytes.{Consumes-nil}}
 use Rattle.std.{proofs.Math.Seq.{take-add}, specs.{Result.{IsErrAnd, IsErrOf}, Io.KnownBytes.{IsAtEnd}}}
 use Rattle.mm_script.specs.{declared.{script_lines.LineAt.{LineAt}, input.Input.{Input}, error.ScriptError.{ScriptError}}, Code.Growing.{InputGrows, HasBlanks, IsLineAt, IsOtherByte}}
@@ -40,9 +40,7 @@ pub found_line : (bytes hay : List ℕ) (left : Option (List ℕ)) (start end mo
     → IsOneLine (slice_range bytes start end) → ((k : ℕ) → k < more → (slice_index hay k == 10) ≡ true → ⊥) → more < length hay → (slice_index hay more == 10) ≡ true
     → IsLineAt bytes left record { start = start; end = end + more; fed = true }
 found_line bytes hay left start end more is low within one none some found =
-    let front = none_found hay more none in
-    let both = take-add (end - start) more (drop start bytes) in
-    grind (arith, common_steps, drop-drop more end bytes, drop_more hay more 0 some, length-drop end bytes, front, both) steps 200000
+    grind (arith, common_steps, drop-drop more end bytes, drop_more hay more 0 some, length-drop end bytes, none_found hay more none, take-add (end - start) more (drop start bytes)) steps 200000
 
 -- no line feed up to the end
 pub no_feed_left : (bytes hay : List ℕ) (start end : ℕ) → hay ≡ drop end bytes → start ≤ end → IsOneLine (slice_range bytes start end)
@@ -69,9 +67,7 @@ feeds (suc n) xs = ap (λ (ys : List ℕ). 10 ∷ ys) (feeds n xs)
 
 -- one empty line more
 pub blank_more : (bytes : List ℕ) (from to : ℕ) → HasBlanks bytes from to → drop to bytes ≡ 10 ∷ drop (to + 1) bytes → HasBlanks bytes from (to + 1)
-blank_more bytes from to b is =
-    let count : (to + 1) - from ≡ suc (to - from) = omega (arith, b.ordered) in
-    grind (arith, common_steps, feeds (to - from) (drop (to + 1) bytes), length-drop to bytes, length-drop (to + 1) bytes) steps 200000
+blank_more bytes from to b is = search (rules, feeds (to - from) (drop (to + 1) bytes), length-drop to bytes, length-drop (to + 1) bytes)
 
 pub blanks_grown : (a b : Input) (u v : Option (List ℕ)) (from to : ℕ) → InputGrows a b u v → HasBlanks (pending a) from to → HasBlanks (pending b) from to
 blanks_grown a b u v from to p h = grind (arith, common_steps, rest_grown a b u v from p (omega (arith, h.ordered, h.within)), rest_grown a b u v to p h.within, grown_long a b u v p) steps 200000

@@ -166,8 +166,7 @@ module _ (bytes : List ℕ) (left : Option (List ℕ)) (line : LineAt) (is : IsL
     texted : (all : List ℕ) (n m : ℕ) → AreNumbers numbers n m → (text_behind m).end ≤ length all
         → IsPartWithin all (text_behind m) × IsNumber (length (bytes_of_part all (text_behind m))) × (numbers ≡ decimal n ++ 32 ∷ decimal (length (bytes_of_part all (text_behind m))))
     texted all n m both within =
-        let long : length (bytes_of_part all (text_behind m)) ≡ m = omega (arith, length-take (line.end + 1 + m - (line.end + 1)) (drop (line.end + 1) all), length-drop (line.end + 1) all) in
-        (record { ordered = omega arith; within = within }, subst IsNumber (sym long) both.second, both.is ∙ ap (λ (k : ℕ). decimal n ++ 32 ∷ decimal k) (sym long))
+        grind (arith, common_steps, length-drop (line.end + 1) all, length-take (line.end + 1 + m - (line.end + 1)) (drop (line.end + 1) all)) steps 200000
 
     pub says_insert : (n m : ℕ) → word ≡ codes "insert" → AreNumbers numbers n m → SaysEdit bytes line (found.Insert (behind (length name)) n (text_behind m))
     says_insert n m first both = record { text = (refl, omega arith); is = λ more within. grind (arith, common_steps, file_there more, texted (bytes ++ more) n m both within, edit_parts) steps 200000 }

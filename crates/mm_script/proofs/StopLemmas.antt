@@ -124,8 +124,7 @@ batch_bad_line n front blanks line more are bad = batch_stops_bad n front blanks
     (bad_edit_entry n front blanks line (more ++ 10 ∷ missing) are bad))
 
 pub batch_bad_last : (n : ℕ) (front : List Listed) (blanks : ℕ) (line : List ℕ) → AreListed n front → IsBadEditLine line → StopsSo (batch_bytes n front blanks line) BadLine
-batch_bad_last n front blanks line are bad = batch_stops_bad n front blanks line (no_feed_entry n front blanks line are bad.one_line)
-    (λ missing. bad_edit_entry n front blanks line missing are bad)
+batch_bad_last n front blanks line are bad = grind (arith, common_steps, bad_edit_entry, batch_stops_bad, no_feed_entry) steps 200000
 
 -- a batch with an edit whose text is not all there, or whose line is the last
 ends_so : (front : List Listed) (x : Listed) → LastInLine (front ++ x ∷ []) → edited_text x.edit ≡ None

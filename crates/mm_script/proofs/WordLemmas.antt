@@ -107,10 +107,7 @@ listed_parts x s = grind (arith, common_steps) steps 200000
 
 -- empty lines and a line of an edit are known from their bytes
 pub same_line : (m n : ℕ) (e f : Asked) (s t : List ℕ) → IsGoodEdit e → IsGoodEdit f → replicate m 10 ++ (edit_line e ++ 10 ∷ s) ≡ replicate n 10 ++ (edit_line f ++ 10 ∷ t) → ((m ≡ n) × (edit_line e ≡ edit_line f)) × (s ≡ t)
-same_line m n e f s t g h k =
-    let p = edit_head e in
-    let q = edit_head f in
-    grind (arith, common_steps, edit_lacks_feed, same_blanks, split_at) steps 200000
+same_line m n e f s t g h k = grind (arith, common_steps, edit_head e, edit_head f, edit_lacks_feed, same_blanks, split_at) steps 200000
 
 same_listed : (x y : Listed) (s t : List ℕ) → IsGoodEdit x.edit → IsGoodEdit y.edit → listed_bytes x ++ s ≡ listed_bytes y ++ t → (x ≡ y) × (s ≡ t)
 same_listed x y s t g h k = grind (arith, common_steps, listed_parts, same_edit, same_line, words_by_edit_line) steps 200000

@@ -1,10 +1,9 @@
 -- Bytes that occur in others, and words that are spelled by bytes of a text.
-use Rattle.std.proofs.Common.{◌≡◌, ℕ, ◌+◌, ◌-◌, ◌<◌, Option, Some, None, List, [], ◌∷◌, length, map, take, drop, refl, sym, ◌∙◌, ap, subst, arith, slice_range, length-take, length-drop, get_or}
+use Rattle.std.proofs.Common.{rules, ◌≡◌, ℕ, ◌+◌, ◌-◌, ◌<◌, Option, Some, None, List, [], ◌∷◌, length, map, take, drop, refl, sym, ◌∙◌, ap, arith, slice_range, length-take, length-drop, get_or}
 use Rattle.std.{proofs.{Common.{get_or-take, get_or-drop}, lemmas.Bool.{false≢true}}, specs.{Prelude.{◌≢◌, ◌↔◌, IsTrue, is_some}, List.{AllByRecursion}}}
 use Rattle.memchr.{specs.Find.{OccursAt, FindsNeedle}, proofs.lemmas.MatchLemmas.{OccursAt-part}}
 use Rattle.mm_store.specs.mm_text.{declared.word.Word.{Word}, Language.Unit.{tokens_of}}
-use Rattle.mm_statement.specs.{Language.{Item.{Kind}, Statement.{symbols_from, symbols_in, item_of}}, Code.{Occurring.{OccurIn}, PlainWords.{plain_words, word_bytes}}}
-use Rattle.mm_statement.proofs.SpokenLemmas.{names_from}
+use Rattle.mm_statement.{specs.{Language.{Item.{Kind}, Statement.{item_of}}, Code.{Occurring.{OccurIn}, PlainWords.{word_bytes}}}, proofs.SpokenLemmas.{names_from}}
 
 -- where a search finds bytes, they occur
 found_stand : (text bytes : List ℕ) (k : ℕ) → OccursAt text bytes k → slice_range text k (k + length bytes) ≡ bytes
@@ -44,6 +43,4 @@ no_word text bytes (word ∷ words) none = (λ e. none (word.start, word.end, e)
 pub no_proof_word :
     (text bytes : List ℕ) (kind : Kind) (words : List Word) → (OccurIn text bytes → ⊥) →
     AllByRecursion (λ word. word ≢ bytes) (item_of kind (tokens_of text words)).proof
-no_proof_word text bytes kind words none =
-    let from = symbols_from kind + length (symbols_in kind (tokens_of text words)) + 1 in
-    subst (AllByRecursion (λ word. word ≢ bytes)) (sym (names_from text words from)) (no_word text bytes (plain_words (drop from words)) none)
+no_proof_word text bytes kind words none = search (rules, names_from, no_word)

@@ -32,8 +32,7 @@ plain_end s ts stop = ap (λ b. take (cond b (1 + prefix_len is_plain ts) 0) (s 
 
 names_with : (from : ℕ) (t : Token) (ts : List Token) (plain : Bool) → is_plain t ≡ plain → token_names (plain_from 0 (map (moved from) ts)) ≡ token_names (plain_from 0 ts)
     → token_names (plain_from 0 (map (moved from) (t ∷ ts))) ≡ token_names (plain_from 0 (t ∷ ts))
-names_with from t ts true e same =
-    ap token_names (plain_more (moved from t) (map (moved from) ts) e) ∙ ap (λ names. t.bytes ∷ names) same ∙ sym (ap token_names (plain_more t ts e))
+names_with from t ts true e same = grind (arith, common_steps, plain_more (moved from t) (map (moved from) ts) e, plain_more t ts e) steps 200000
 names_with from t ts false e same = ap token_names (plain_end (moved from t) (map (moved from) ts) e) ∙ sym (ap token_names (plain_end t ts e))
 
 names_moved : (from : ℕ) (ts : List Token) → token_names (plain_from 0 (map (moved from) ts)) ≡ token_names (plain_from 0 ts)
@@ -52,12 +51,7 @@ label_moved kind from [] = refl
 label_moved kind from (t ∷ tokens) = refl
 
 item_moved : (kind : Kind) (from : ℕ) (tokens : List Token) → item_of kind (map (moved from) tokens) ≡ item_of kind tokens
-item_moved kind from tokens =
-    let count = count_moved from (symbols_from kind) tokens in
-    let symbols = plain_moved from (symbols_from kind) tokens in
-    let proof : token_names (proof_in kind (map (moved from) tokens)) ≡ token_names (proof_in kind tokens) =
-    ap (λ k. token_names (plain_from (symbols_from kind + k + 1) (map (moved from) tokens))) count ∙ plain_moved from (symbols_from kind + length (symbols_in kind tokens) + 1) tokens in
-    λ i. record { kind = kind; label = label_moved kind from tokens i; symbols = symbols i; proof = proof i }
+item_moved kind from tokens = grind (arith, common_steps, count_moved, label_moved, plain_moved) steps 200000
 
 -- ---- what the words of a shape say
 
@@ -68,9 +62,7 @@ plain_stop (s ∷ symbols) rest close all stop =
 
 behind : (symbols rest : List Token) (close : Token) → drop (length symbols + 1) (symbols ++ close ∷ rest) ≡ rest
 behind [] rest close = refl
-behind (s ∷ symbols) rest close =
-    let sum : length (s ∷ symbols) + 1 ≡ suc (length symbols + 1) = omega arith in
-    ap (λ n. drop n (s ∷ (symbols ++ close ∷ rest))) sum ∙ behind symbols rest close
+behind (s ∷ symbols) rest close = grind (arith, common_steps, behind symbols rest close) steps 200000
 
 stops : (keyword : Keyword) (token : Token) → IsKeyword keyword token → is_plain token ≡ false
 stops keyword token is = ap is_plain_kind is
@@ -84,10 +76,7 @@ module _ (kind : Kind) (front symbols rest : List Token) (close : Token) (plain 
   symbols_are = ap (plain_from 0) few ∙ plain_stop symbols rest close plain stop
 
   proof_is : proof_in kind tokens ≡ plain_from 0 rest
-  proof_is =
-      let sum : symbols_from kind + (length symbols + 1) ≡ symbols_from kind + length symbols + 1 = omega arith in
-      ap (λ (ts : List Token). plain_from (symbols_from kind + length ts + 1) tokens) symbols_are
-      ∙ ap (plain_from 0) (ap (λ k. drop k tokens) (sym sum) ∙ sym (drop-drop (length symbols + 1) (symbols_from kind) tokens) ∙ ap (drop (length symbols + 1)) few ∙ behind symbols rest close)
+  proof_is = grind (arith, common_steps, behind symbols rest close, drop-drop (length symbols + 1) (symbols_from kind) tokens, symbols_are) steps 200000
 
   pub item_is : item_of kind tokens ≡ record { kind = kind; label = label_in kind tokens; symbols = token_names symbols; proof = token_names (plain_from 0 rest) }
   item_is = λ i. record { kind = kind; label = label_in kind tokens; symbols = token_names (symbols_are i); proof = token_names (proof_is i) }

@@ -1,9 +1,9 @@
 -- The names that a walk through files takes are those of the database of the files, and missing files have some of them.
-use Rattle.std.proofs.Common.{◌≡◌, ◌≢◌, ℕ, ◌+◌, Bool, true, false, Option, Some, None, List, [], ◌∷◌, ◌++◌, map, slice_get, drop, refl, sym, ap, ◌∙◌, subst, arith, append_assoc, append-nil, Contains}
-use Rattle.std.proofs.{Common.{All}, lemmas.{Grind.{common_steps}, Option.{none-some, same_Some, slice_get-map}, List.{length-map, map-append}}}
-use Rattle.std.{proofs.lemmas.List.Elements.{All-append, All-cons, All-nil, Contains-append_left, Contains-push}, specs.{List.{AllZip}, Option.{option_map}}}
+use Rattle.std.proofs.Common.{◌≡◌, ◌≢◌, ℕ, ◌+◌, Bool, true, false, Option, Some, None, List, [], ◌∷◌, ◌++◌, map, slice_get, refl, sym, ap, ◌∙◌, subst, arith, append_assoc, append-nil, Contains, All}
+use Rattle.std.proofs.lemmas.{Grind.{common_steps}, Option.{none-some, same_Some, slice_get-map}, List.{length-map, map-append}}
+use Rattle.std.{proofs.lemmas.List.Elements.{All-append, All-cons, All-nil, Contains-append_left, Contains-push}, specs.List.{AllZip}}
 use Rattle.mm_store.specs.mm_text.{declared.word.Word.{Word}, Language.{Part.{HasUnits, part}, Reading.{HasWords}, Unit.{tokens_of, unit_tokens, Units, Nothing, Simple, Block, AreUnits}}}
-use Rattle.mm_store.specs.{declared.key.PieceKey.{PieceKey}, Language.{FilesView.{File, FileView, PieceView, file_number, number_of}, Keyless.{bare, bare_file, one_key}}}
+use Rattle.mm_store.specs.{declared.key.PieceKey.{PieceKey}, Language.{FilesView.{File, FileView, PieceView, file_number, number_of}, Keyless.{bare, one_key}}}
 use Rattle.mm_store.specs.Language.Expansion.{Placed, Named, named_parts, nameless, included_name, placed_part, IsInclusion, ArePartsOf, ArePlaced, Expands, IsExpansion}
 use Rattle.mm_store.specs.Language.Walking.{LevelView, WalkView, Goes, IsRest, ArePending, IsWalk, StandsBefore}
 use Rattle.mm_statement.specs.Language.Database.{Located, said_of, bracket, unit_items, AreLocated, AreOfFile, Refers, Unfolds, IsDatabase}
@@ -73,10 +73,7 @@ module _ (one : OneEach) where
       p.4 ∙ ap (λ l. l ++ p.1) (parts_one file n piece p.0 q.0 p.2 q.2) ∙ ap (λ l. q.0 ++ l) (placed_one file (n + 1) pieces p.1 q.1 p.3 q.3) ∙ sym q.4
 
   rest_one : (files : List FileView) (level : LevelView) (a b : List Placed) → IsRest files level a → IsRest files level b → a ≡ b
-  rest_one files level a b p q =
-      let same : q.file ≡ p.file = same_Some q.file p.file (sym q.there ∙ p.there) in
-      placed_one level.file level.piece (drop level.piece p.file.pieces) a b p.placed
-      (subst (λ (file : FileView). ArePlaced level.file level.piece (drop level.piece file.pieces) b) same q.placed)
+  rest_one files level a b p q = grind (arith, common_steps, placed_one, same_Some) steps 200000
 
   pending_one : (files : List FileView) (levels : List LevelView) (a b : List Placed) → ArePending files levels a → ArePending files levels b → a ≡ b
   pending_one files [] a b p q = p ∙ sym q
@@ -110,7 +107,7 @@ module _ (files : List File) where
   unfold_missing {item = item} {later = later} {names = names} {final = final} name (database.missing {name = copy} {items = items} other is free rest) refers new none =
       (items, subst (λ (name : List ℕ). Unfolds files later (names ++ name ∷ []) items final) (one_name item copy name other refers) rest)
   unfold_missing {item = item} name (database.included {name = copy} other is of inner rest) refers new none =
-      absurd (none-some of.number (sym (ap (file_number files) (one_name item copy name other refers) ∙ none) ∙ of.is_number))
+      grind (arith, common_steps, none-some, one_name) steps 200000
 
   -- what an included file gives, and what comes after it
   record Included (name : List ℕ) (later : List Located) (names final : List (List ℕ)) : Type 0 where
@@ -127,18 +124,9 @@ module _ (files : List File) where
   unfold_included name number (database.own kind rest) refers new some = absurd (kind refers.0)
   unfold_included {item = item} {names = names} name number (database.again {name = copy} other known rest) refers new some = absurd (new (subst (Contains names) (one_name item copy name other refers) known))
   unfold_included {item = item} name number (database.missing {name = copy} other is none rest) refers new some =
-      absurd (none-some number (sym none ∙ ap (file_number files) (one_name item copy name other refers) ∙ some))
+      grind (arith, common_steps, none-some, one_name) steps 200000
   unfold_included {item = item} {names = names} name number (database.included {name = copy} {inner = inner} {gained = gained} {items = items} {between = between} other is of first rest) refers new some =
-      let same = one_name item copy name other refers in
-      record {
-        inner = inner;
-        of = subst (λ (name : List ℕ). AreOfFile files name inner) same of;
-        gained = gained;
-        items = items;
-        between = between;
-        first = subst (λ (name : List ℕ). Unfolds files inner (names ++ name ∷ []) gained between) same first;
-        rest = rest;
-      }
+      grind (arith, common_steps, between, first, gained, inner, items, of, one_name, rest) steps 200000
 
   unfold_join : {a b gained items : List Located} {names between final : List (List ℕ)} → Unfolds files a names gained between → Unfolds files b between items final
       → Unfolds files (a ++ b) names (gained ++ items) final
@@ -208,11 +196,7 @@ module _ (one : OneEach) (files : List File) where
   included_match : (name : List ℕ) (number : ℕ) (file : FileView) (inner : List Placed) (located : List Located) → number_of (bare files) name ≡ Some number
       → slice_get (bare files) number ≡ Some file → ArePlaced number 0 file.pieces inner → AreOfFile files name located → AllZip Matches inner located
   included_match name number file inner located is there placed of =
-      let number_is : number ≡ of.number = same_Some number of.number (sym is ∙ number_bare files name ∙ of.is_number) in
-      let again : slice_get (bare files) of.number ≡ Some file = subst (λ (n : ℕ). slice_get (bare files) n ≡ Some file) number_is there in
-      let file_is : file ≡ bare_file of.file = same_Some file (bare_file of.file) (sym again ∙ slice_get-map bare_file files of.number ∙ ap (option_map bare_file) of.there) in
-      pieces_match one of.number 0 of.file.pieces inner located
-      (subst (λ (n : ℕ). ArePlaced n 0 (bare_file of.file).pieces inner) number_is (subst (λ (file : FileView). ArePlaced number 0 file.pieces inner) file_is placed)) of.located
+      grind (arith, common_steps, inner, number_bare, pieces_match, same_Some, slice_get-map) steps 200000
 
   -- what items give of which a walk has passed a part
   record Passed (rest : List Placed) (after final : List (List ℕ)) : Type 0 where

@@ -49,9 +49,6 @@ pub record Progress (text : List ℕ) (pieces : List (List ℕ)) (from at : ℕ)
 pub progress_start : (text : List ℕ) (first : ℕ) → Progress text [] 0 0 m.Begin first []
 progress_start text first = grind (arith, common_steps, stands_none first, none_read) steps 200000
 
-abbrev ok_step : m.Phase → ℕ → m.UnitStep
-ok_step phase depth = Ok (phase, depth)
-
 module _ (text : List ℕ) (pieces : List (List ℕ)) (from at : ℕ) (phase : m.Phase) (first : ℕ) (blocks : List ℕ) (h : Progress text pieces from at phase first blocks) where
   runs_so_far : runs text ≡ (h.front ++ h.since) ++ runs_at text at
   runs_so_far = h.at_from ∙ ap (λ (rs : List Run). h.front ++ rs) h.at_now ∙ sym (append_assoc h.front h.since (runs_at text at))
@@ -81,8 +78,7 @@ module _ (text : List ℕ) (pieces : List (List ℕ)) (from at : ℕ) (phase : m
 
   pub unit_end : first_bad text ≡ None → AreWords (runs_at text at) [] → phase ≢ m.Begin → IsFirstFaultAt text T07 first
   unit_end allowed none other =
-      let e = stands_unit (tokens_of text (h.before ++ h.part)) phase first blocks h.stands other in
-      record { found = h.before ++ h.part; has_words = all_words allowed none; word = e.0; token = e.1; ends = e.2; there = e.3; place = e.4 }
+      grind (arith, common_steps, all_words allowed none, stands_unit (tokens_of text (h.before ++ h.part)) phase first blocks h.stands other) steps 200000
 
   pub block_end : (outer : List ℕ) (place : ℕ) → first_bad text ≡ None → AreWords (runs_at text at) [] → phase ≡ m.Begin → blocks ≡ outer ++ place ∷ [] → IsFirstFaultAt text T08 place
   block_end outer place allowed none is open_ones =

@@ -117,8 +117,7 @@ word_here text from start n kind forward within white len some is =
 -- ---- what is read
 
 pub word_read : (text : List ℕ) (from : ℕ) (word : Word) (to : ℕ) → TakesWord text from word to → read_runs None (runs_at text from) ≡ cons_word word (read_runs None (runs_at text to))
-word_read text from word to h =
-    ap (read_runs None) h.joined ∙ read_whole h.taken (word ∷ []) h.reads (runs_at text to) ∙ (grind (arith, common_steps) steps 200000)
+word_read text from word to h = grind (arith, common_steps, read_whole h.taken (word ∷ []) h.reads (runs_at text to)) steps 200000
 
 -- ---- faults
 

@@ -106,7 +106,7 @@ in_comment runs found h = record { front = h.front; first = h.first; inside = h.
 
 pub not_whole : (start : ℕ) (seen : List Run) (words : List Word) → InComment start seen words → (others : List Word) → ¬ AreWords seen others
 not_whole start seen words h others whole =
-    grind (arith, common_steps, read_words seen others whole, append-nil seen, read_behind (Some start) seen words h []) steps 200000
+    grind (arith, common_steps, append-nil seen, read_behind (Some start) seen words h [], read_words seen others whole) steps 200000
 
 -- ---- what is read
 

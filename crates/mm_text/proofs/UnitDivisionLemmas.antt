@@ -1,7 +1,7 @@
 -- A list of words has one division into units.
 use Rattle.std.proofs.{Common.{[], ◌≡◌, ◌⊎◌, Bool, true, false, List, ◌∷◌, ◌++◌, append_assoc, refl, sym, ◌∙◌, subst, inl, inr, arith, append-nil}, lemmas.Grind.{common_steps}}
 use Rattle.std.specs.List.{AllByRecursion, flat_map}
-use Rattle.mm_text.specs.declared.word.Keyword.TheVariants.{BlockStart, BlockEnd, Constants, Variables, Floating, Essential, Disjoint, Axiom, StatementEnd, ProofStart, InclusionStart}
+use Rattle.mm_text.specs.declared.word.Keyword.TheVariants.{BlockStart, BlockEnd, Constants, Variables, Disjoint, StatementEnd, ProofStart, InclusionStart}
 use Rattle.mm_text.specs.Language.Unit.{Token, IsKeyword, IsPlain, Shape, Declaration, Labelled, Provable, Inclusion, shape_tokens, IsShape, Units, Nothing, Simple, Block, unit_tokens, AreUnits}
 use Rattle.mm_text.proofs.UnitFaultLemmas.{no_plain}
 
@@ -29,9 +29,6 @@ proof_split xs ys p q xs' ys' p' q' s t f g is_p is_q f' g' is_p' is_q' e =
 
 abbrev Declares : Token → Type 0
 Declares token = IsKeyword Constants token ⊎ (IsKeyword Variables token ⊎ IsKeyword Disjoint token)
-
-abbrev Labels : Token → Type 0
-Labels token = IsKeyword Floating token ⊎ (IsKeyword Essential token ⊎ IsKeyword Axiom token)
 
 declares_not : (token : Token) → Declares token → IsPlain token ⊎ IsKeyword InclusionStart token → ⊥
 declares_not token h h1 = grind (arith, common_steps) steps 200000

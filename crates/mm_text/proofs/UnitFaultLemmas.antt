@@ -405,7 +405,7 @@ longer xs us zs z joined is even inside h = grind (arith, common_steps, covered_
 
 shorter : (xs us zs later : List Token) (z : Token) (d : ℕ) → us ≡ xs ++ z ∷ zs → (z ∷ zs) ++ later ≡ blocks d → starts xs ≡ ends xs → starts us ≡ ends us → ⊥
 shorter xs us zs later z d joined rest even inside =
-    grind (arith, common_steps, starts-blocks d, end_counts, first_end, starts-append, ends-append) steps 200000
+    grind (arith, common_steps, end_counts, ends-append, first_end, starts-append, starts-blocks d) steps 200000
 
 pub closed_units : (xs : List Token) (depth d : ℕ) → m.run m.Begin (suc depth) xs ≡ Ok (m.phase_state m.Begin d) → starts xs ≡ ends xs → Covered xs → (inner : Units) × AreUnits false inner × (xs ≡ unit_tokens inner)
 closed_units xs depth d e even h = both (cut_twice xs (blocks d) (unit_tokens closes.inner) (closes.end ∷ closes.later) closes.joined) where

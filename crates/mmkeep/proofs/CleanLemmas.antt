@@ -1,5 +1,6 @@
 -- A report is clean: it has no line before its summary.
-use Rattle.std.proofs.{Common.{[], ◌≡◌, ℕ, Bool, false, cond, zero-add, IsTrue, ◌+◌, List, ◌∷◌, length, refl, sym, ◌∙◌, ap, arith, nat_eq, count_by, eqb-true, eq-eqb}, lemmas.List.Sums.{sum_by-cons}}
+use Rattle.std.proofs.lemmas.{Grind.{common_steps}, List.Sums.{sum_by-cons}}
+use Rattle.std.proofs.Common.{[], ◌≡◌, ℕ, Bool, false, cond, zero-add, IsTrue, ◌+◌, List, ◌∷◌, length, refl, sym, ◌∙◌, ap, arith, nat_eq, count_by, eqb-true, eq-eqb}
 use Rattle.mm_report.specs.{mm_statement.Language.Item.{Said}, mm_keep.{declared.tally.Tally.{Tally}, Language.Findings.{counted}}}
 use Rattle.mm_report.specs.{mm_keep.Language.Told.{Told, Quiet, AnAxiom, Proved, Incomplete, Wrong, Fault, Counts, counts, is_incomplete, is_wrong, is_fault}, Language.Report.{lines}}
 
@@ -20,8 +21,7 @@ none_more : (one : Told) (all : List Told) → is_incomplete one ≡ false → i
 none_more one all i w f p = (count_cons is_incomplete one all ∙ rw i (zero-add _ ∙ p.0), count_cons is_wrong one all ∙ rw w (zero-add _ ∙ p.1), count_cons is_fault one all ∙ rw f (zero-add _ ∙ p.2))
 
 none_behind : (one : Told) (all : List Told) → is_incomplete one ≡ false → is_wrong one ≡ false → is_fault one ≡ false → HaveNoLines (one ∷ all) → HaveNoLines all
-none_behind one all i w f p =
-    (sym (zero-add _) ∙ sym (count_cons is_incomplete one all ∙ rw i refl) ∙ p.0, sym (zero-add _) ∙ sym (count_cons is_wrong one all ∙ rw w refl) ∙ p.1, sym (zero-add _) ∙ sym (count_cons is_fault one all ∙ rw f refl) ∙ p.2)
+none_behind one all i w f p = grind (arith, common_steps, count_cons, zero-add) steps 200000
 
 -- a report has no line before its summary if nothing is incomplete, wrong or at fault
 pub no_lines : (names : List (List ℕ)) (items : List Said) (all : List Told) → HaveNoLines all → lines names items all ≡ []
@@ -47,15 +47,8 @@ IsAnswer names items all clean = (IsTrue clean → lines names items all ≡ [])
 module _ (names : List (List ℕ)) (items : List Said) (all : List Told) (tally : Tally) (count : length all ≡ length items) (same : counted tally ≡ counts all) where
   -- nothing is incomplete or wrong: it is clean exactly when nothing is at fault
   pub clean_by_faults : tally.incomplete ≡ 0 → tally.wrong ≡ 0 → IsAnswer names items all (nat_eq tally.faults 0)
-  clean_by_faults i w = (
-    λ clean. no_lines names items all (sym (ap (λ (k : Counts). k.incomplete) same) ∙ i, sym (ap (λ (k : Counts). k.wrong) same) ∙ w, sym (ap (λ (k : Counts). k.faults) same) ∙ eqb-true tally.faults 0 clean),
-    λ none. eq-eqb tally.faults 0 (ap (λ (k : Counts). k.faults) same ∙ (some_line names items all count none).2),
-  )
+  clean_by_faults i w = grind (arith, common_steps, eq-eqb, eqb-true, no_lines, some_line) steps 200000
 
   -- it is not clean if something is incomplete or wrong
   pub not_clean : (clean : Bool) → clean ≡ false → (tally.incomplete ≡ 0 → tally.wrong ≡ 0 → ⊥) → IsAnswer names items all clean
-  not_clean clean is some = (
-    λ yes. absurd (cc),
-    λ none. let n =
-        some_line names items all count none in absurd (some (ap (λ (k : Counts). k.incomplete) same ∙ n.0) (ap (λ (k : Counts). k.wrong) same ∙ n.1)),
-  )
+  not_clean clean is some = grind (arith, common_steps, some_line) steps 200000

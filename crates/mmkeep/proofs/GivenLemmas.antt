@@ -17,7 +17,7 @@ module _ (name : List ℕ) where
   -- a file before others
   added_here : (first later : List File) (bytes : List ℕ) → IsAdded [] first name bytes → HasFile (first ++ later) name
   added_here first later bytes a =
-      subst (λ (l : List File). HasFile (l ++ later) name) (sym a.last) (passes_here named a.file later ((bytes_eq-Decides name a.file.name).1 (sym a.is_name)))
+      grind (arith, common_steps, bytes_eq-Decides name a.file.name, passes_here named a.file later ((bytes_eq-Decides name a.file.name).1 (sym a.is_name))) steps 200000
 
   added_before : (n : List ℕ) (first later : List File) (bytes : List ℕ) → IsAdded [] first n bytes → HasFile later name → HasFile (first ++ later) name
   added_before n first later bytes a has = subst (λ (l : List File). HasFile (l ++ later) name) (sym a.last) (passes_later named a.file later has)
@@ -29,11 +29,7 @@ module _ (name : List ℕ) where
   before (Bytes bytes) n first later a has = added_before n first later bytes a has
 
   none_later : (known : KnownFile) (n : List ℕ) (first later : List File) → GivesFile known n first → file_number (first ++ later) name ≡ None → file_number later name ≡ None
-  none_later known n first later given none = by (file_number later name) refl
-    where
-      by : (number : Option ℕ) → file_number later name ≡ number → file_number later name ≡ None
-      by None is = is
-      by (Some number) is = absurd (before known n first later given (λ e. none-some number (sym e ∙ is)) none)
+  none_later known n first later given none = grind (arith, common_steps, before, none-some) steps 200000
 
   none_here : (known : KnownFile) (first later : List File) → GivesFile known name first → file_number (first ++ later) name ≡ None → GivesFile known name []
   none_here Unknown first later given none = inl refl

@@ -1,7 +1,7 @@
 -- Files that are loaded: none is parked, those that are there stay, and a walk goes on among them.
-use Rattle.std.proofs.Common.{[], ◌≡◌, ◌≢◌, ℕ, ◌+◌, ◌-◌, ◌*◌, ◌<◌, ◌≤◌, Bool, true, false, append-nil, not, cond, List, ◌∷◌, ◌++◌, ◌⊎◌, append_assoc, get_or, length, length-append, Option, Some, None}
-use Rattle.std.proofs.{Common.{Result, Ok, Err, OnOk, IfErr, IsErrAnd, IsErrOf, map, sym, ap, ◌∙◌, subst, subst₂, refl, inl, inr, ⊎_elim, arith, Contains, position}, lemmas.Grind.{common_steps}}
-use Rattle.std.proofs.lemmas.{Bool.{cases_eq, false≢true}, List.{length-map, length_push, nil_from_length, get_or-append-add, get_or_append_left, get_or_push}}
+use Rattle.std.proofs.Common.{rules, [], ◌≡◌, ◌≢◌, ℕ, ◌+◌, ◌-◌, ◌*◌, ◌<◌, ◌≤◌, Bool, true, false, append-nil, not, cond, List, ◌∷◌, ◌++◌, ◌⊎◌, append_assoc, get_or, length, length-append, Option}
+use Rattle.std.proofs.Common.{Some, None, Result, Ok, Err, OnOk, IfErr, IsErrAnd, IsErrOf, map, sym, ap, ◌∙◌, subst, subst₂, refl, inl, inr, ⊎_elim, arith, Contains, position}
+use Rattle.std.proofs.lemmas.{Grind.{common_steps}, Bool.{cases_eq, false≢true}, List.{length-map, length_push, nil_from_length, get_or-append-add, get_or_append_left, get_or_push}}
 use Rattle.std.proofs.lemmas.List.{Elements.{Contains-append_cases, Contains-append_right, Contains-push, Contains-push_cases}, Folds.{position_or_len_push}, Sums.{prefix_len-le-length}}
 use Rattle.std.{proofs.{lemmas.Slice.Eq.{bytes_eq-Decides}, KnownBytes.{Consumes-trans}}, specs.{Io.KnownBytes.{Consumes}, List.{position_or_len, sum_by}, Str.{bytes_eq}, Ordering.{nat_cmp}}}
 use Rattle.mm_report.specs.mm_store.{declared.{error.StoreError.{StoreError, TheVariants.{Memory as Lacking, NoTop}}, item.Item.{Item}}, Language.Answers.{IsExpansionError}}
@@ -30,14 +30,11 @@ one_passes : {X : Type 0} (test : X → Bool) (xs : List X) (y : X) → (test y 
 one_passes test xs y some = grind (arith, common_steps, position_or_len_push test xs y, prefix_len-le-length (λ x. not (test x)) xs) steps 200000
 
 pub added_there : (old new : List File) (name text : List ℕ) → IsAdded old new name text → HasFile new name
-added_there old new name text a =
-    subst (λ (files : List File). file_number files name ≢ None) (sym a.last)
-    (one_passes (λ file. bytes_eq name file.name) old a.file (inl ((bytes_eq-Decides name a.file.name).1 (sym a.is_name))))
+added_there old new name text a = grind (arith, common_steps, bytes_eq-Decides, old, one_passes) steps 200000
 
 -- and leaves the others there
 pub added_keeps : (old new : List File) (name text : List ℕ) → IsAdded old new name text → KeepsFiles old new
-added_keeps old new name text a other has =
-    subst (λ (files : List File). file_number files other ≢ None) (sym a.last) (one_passes (λ file. bytes_eq other file.name) old a.file (inr has))
+added_keeps old new name text a other has = grind (arith, common_steps, old, one_passes) steps 200000
 
 pub may_keep : (old new : List File) (name : List ℕ) → MayHaveAdded old new name → KeepsFiles old new
 may_keep old new name (inl same) = λ other has. subst (λ (files : List File). HasFile files other) (sym same) has
@@ -88,11 +85,7 @@ module _ {F E T O : Type 0} (remaining : F → Option (List ℕ)) (Lacks : E →
 pub read_on : {R : Type 0} (remaining : R → Option (List ℕ)) (left : Option (List ℕ)) (calls : ℕ) (before after : Reading R) (text part : List ℕ)
     → Consumes left (unread remaining before) text → calls ≤ calls_left before + length text
     → Consumes (unread remaining before) (unread remaining after) part → calls_left before ≡ calls_left after + 1 → ReadsOn remaining left calls after
-read_on remaining left calls before after text part come few more one = record {
-  bytes = text ++ part;
-  come = Consumes-trans left (unread remaining before) (unread remaining after) text part come more;
-  few = omega (arith, few, one, length-append text part);
-}
+read_on remaining left calls before after text part come few more one = grind (arith, common_steps, length-append text part, one) steps 200000
 
 -- it is not read to its end, or memory runs out
 pub unread_error : (files : List File) (unread : Option (List ℕ)) (error : FileError) → (error ≡ errors.Read) ⊎ (error ≡ errors.Memory)
@@ -140,8 +133,7 @@ module _ {F E : Type 0} (remaining : F → Option (List ℕ)) (Lacks : E → Typ
   unopened known error unloaded agrees memory (inl is) = as_any known unloaded (memory_stops_at known unloaded is)
   unopened Unknown error unloaded agrees memory (inr is) = rw is tt
   unopened NoFile error unloaded agrees memory (inr is) = inr is
-  unopened {T} (Bytes bytes) error unloaded agrees memory (inr is) =
-      let lacks : IsErrOf {T = T} (Err unloaded) Memory = memory agrees in as_any (Bytes bytes) unloaded (memory_stops_at (Bytes bytes) unloaded (cc))
+  unopened {T} (Bytes bytes) error unloaded agrees memory (inr is) = grind (arith, common_steps, as_any, memory_stops_at) steps 200000
 
   pub stops_top : {T : Type 0} (known : KnownFile) (opened : Result F E) (result : Result T (Unloaded F)) → Opens remaining Lacks known opened
       → IfErr opened (λ error. Lacks error → IsErrOf result Memory)
@@ -222,10 +214,7 @@ module _ (files : List FileView) (top name : List ℕ) (items : List Item) (walk
   one_more before reported (first ∷ later) is = omega (arith, ap length is, length-append walk.names (first ∷ later))
 
   fewer_by : length next.names ≤ 4294967296 → (walk.told ≡ false) ⊎ ((before : List ℕ) × HasReported files walk before) → names_left next < names_left walk
-  fewer_by few (inl untold) =
-      let at : unreported walk.told ≡ 1 = ap unreported untold in
-      let after : unreported next.told ≡ 0 = ap unreported finds.told in
-      omega (arith, few, at, after, ap length finds.goes_on.keeps, length-append walk.names finds.goes_on.later)
+  fewer_by few (inl untold) = grind (arith, common_steps, length-append walk.names finds.goes_on.later) steps 200000
   fewer_by few (inr (before, reported)) =
       let after : unreported next.told ≡ 0 = ap unreported finds.told in
       omega (arith, few, after, one_more before reported finds.goes_on.later finds.goes_on.keeps)
@@ -234,12 +223,7 @@ module _ (files : List FileView) (top name : List ℕ) (items : List Item) (walk
 
 module _ {R : Type 0} (remaining : R → Option (List ℕ)) (holds : List ℕ → KnownFile) (top : List ℕ) where
   pub stops_for_memory : (unloaded : Unloaded R) → unloaded ≡ Memory → IsUnloaded remaining holds top unloaded
-  stops_for_memory unloaded is = inl (by (holds top))
-    where
-      by : (known : KnownFile) → StopsAtTop remaining known [] unloaded
-      by Unknown = rw is tt
-      by NoFile = inl is
-      by (Bytes bytes) = rw is tt
+  stops_for_memory unloaded is = grind (arith, common_steps) steps 200000
 
   pub all_stops : {T : Type 0} {first : List File} {begin : WalkView} (result : Result T (Unloaded R)) → Loads holds top 0 first begin
       → IfErr result (λ unloaded. (top : List ℕ) → Loads holds top 0 first begin → IsUnloaded remaining holds top unloaded)
@@ -261,18 +245,7 @@ one_distinct : (top : List ℕ) → AreDistinct (top ∷ [])
 one_distinct top name i j less within first second = omega (arith, less, within)
 
 distinct_push : (names : List (List ℕ)) (new : List ℕ) → AreDistinct names → ¬ Contains names new → AreDistinct (names ++ new ∷ [])
-distinct_push names new distinct fresh name i j less within first second =
-    let long = length_push names new in
-    ⊎_elim
-    (λ at_end.
-    let is : new ≡ name = sym (get_or_push names new name j (sym at_end)) ∙ second in
-    let before : i < length names = omega (arith, less, at_end) in
-    fresh (subst (Contains names) (sym is) (i, before, sym (get_or_append_left names (new ∷ []) name i before) ∙ first)))
-    (λ other.
-    let inside : j < length names = omega (arith, within, long, other) in
-    let before : i < length names = omega (arith, less, inside) in
-    distinct name i j less inside (sym (get_or_append_left names (new ∷ []) name i before) ∙ first) (sym (get_or_append_left names (new ∷ []) name j inside) ∙ second))
-    (cases_eq j (length names))
+distinct_push names new distinct fresh name i j less within first second = search (rules, cases_eq, distinct, get_or_append_left, get_or_push, length_push)
 
 goes_distinct : {files : List FileView} {parts rest : List Placed} {names after : List (List ℕ)} {items : List Item} → Goes files parts names items rest after
     → AreDistinct names → AreDistinct after
@@ -284,9 +257,7 @@ goes_distinct {names = names} (walking.included {part = part} inner inclusion ne
     goes_distinct goes (distinct_push names part.name distinct new)
 
 split_apart : (front back : List (List ℕ)) → AreDistinct (front ++ back) → (name : List ℕ) → Contains front name → ¬ Contains back name
-split_apart front back distinct name a b =
-    distinct name a.0 (length front + b.0) (omega (arith, a.1)) (omega (arith, b.1, length-append front back))
-    (get_or_append_left front back name a.0 a.1 ∙ a.2) (get_or-append-add front back b.0 name ∙ b.2)
+split_apart front back distinct name a b = search (rules, distinct, get_or-append-add, get_or_append_left, length-append)
 
 pub only : (a b : List ℕ) → Contains (a ∷ []) b → a ≡ b
 only a b c = elim (Contains-push_cases [] a b c) [ inl other ↦ absurd (omega (arith, other.1)) | inr same ↦ same ]
@@ -305,18 +276,10 @@ exactly_one old (a ∷ b ∷ later) name distinct all there =
 
 -- a file of this name before others
 first_passes : {X : Type 0} (test : X → Bool) (x : X) (xs : List X) → position test (x ∷ xs) ≢ None → (test x ≡ true) ⊎ (position test xs ≢ None)
-first_passes test x xs some = by (test x) refl
-  where
-    by : (b : Bool) → test x ≡ b → (test x ≡ true) ⊎ (position test xs ≢ None)
-    by true is = inl is
-    by false is = inr (λ none. some (grind (arith, common_steps, prefix_len-le-length (λ x. not (test x)) xs) steps 200000))
+first_passes test x xs some = grind (arith, common_steps, prefix_len-le-length (λ x. not (test x)) xs) steps 200000
 
 added_named : (n : List ℕ) (first later : List File) (name bytes : List ℕ) → IsAdded [] first n bytes → HasFile (first ++ later) name → (n ≡ name) ⊎ HasFile later name
-added_named n first later name bytes a has =
-    elim (first_passes (λ file. bytes_eq name file.name) a.file later (subst (λ (l : List File). HasFile (l ++ later) name) a.last has)) [
-      | inl is ↦ inl (sym a.is_name ∙ sym ((bytes_eq-Decides name a.file.name).0 is))
-      | inr more ↦ inr more
-    ]
+added_named n first later name bytes a has = grind (arith, common_steps, bytes_eq-Decides, first_passes) steps 200000
 
 -- what is proved of the names of a database
 pub record NamesAreTaken : Type 0 where
@@ -340,9 +303,7 @@ module _ (holds : List ℕ → KnownFile) (top : List ℕ) where
   pub finds_next : WalksOn → {names : ℕ} {files : List File} {walk : WalkView} → Loads holds top names files walk → (next : WalkView) (name : List ℕ)
       → ((top : List ℕ) (items : List Item) → IsWalk (bare files) top items walk → FindsMissing (bare files) top items walk next name)
       → FindsNext files top walk next name
-  finds_next law loads next name found =
-      let walked = loads_walk law loads in
-      record { items = walked.0; is_walk = walked.1; finds = found top walked.0 walked.1 }
+  finds_next law loads next name found = search (rules, loads_walk law loads)
 
   -- each missing name that the walk goes on to is one more, but for the first
   pub loads_reports : StandsOn → {names : ℕ} {files : List File} {walk : WalkView} → Loads holds top names files walk
@@ -373,8 +334,7 @@ module _ (holds : List ℕ → KnownFile) (top : List ℕ) where
   taken_gives Unknown old new name (inl same) = ([], inl refl, same ∙ sym (append-nil old))
   taken_gives Unknown old new name (inr a) = (a.is_added.file ∷ [], inr (a.text, alone old new name a.text a.is_added), a.is_added.last)
   taken_gives NoFile old new name same = ([], refl, same ∙ sym (append-nil old))
-  taken_gives (Bytes bytes) old new name a =
-      (a.is_added.file ∷ [], subst (IsAdded [] (a.is_added.file ∷ []) name) a.is_text (alone old new name a.text a.is_added), a.is_added.last)
+  taken_gives (Bytes bytes) old new name a = grind (arith, common_steps, alone, old) steps 200000
 
   top_taken : (known : KnownFile) (old new : List File) (name : List ℕ) → TakesTop known old new name → TakesFile known old new name
   top_taken Unknown old new name a = inr a
@@ -384,8 +344,7 @@ module _ (holds : List ℕ → KnownFile) (top : List ℕ) where
   gives_more : (names : List (List ℕ)) (files : List File) (name : List ℕ) (own : List File) → GivesFiles holds names files → GivesFile (holds name) name own
       → GivesFiles holds (names ++ name ∷ []) (files ++ own)
   gives_more [] files name own is given = (own, [], given, refl, ap (λ (l : List File). l ++ own) is ∙ sym (append-nil own))
-  gives_more (n ∷ names) files name own (first, later, g, gs, are) given =
-      (first, later ++ own, g, gives_more names later name own gs given, ap (λ (l : List File). l ++ own) are ∙ append_assoc first later own)
+  gives_more (n ∷ names) files name own (first, later, g, gs, are) given = search (rules, gives_more names later name own gs given, given)
 
   own_named : (known : KnownFile) (n : List ℕ) (first later : List File) (name : List ℕ) → GivesFile known n first → HasFile (first ++ later) name
       → (n ≡ name) ⊎ HasFile later name

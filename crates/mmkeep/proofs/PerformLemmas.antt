@@ -1,7 +1,7 @@
 -- What a command has done, by what its parts have done.
-use Rattle.std.proofs.Common.{◌≡◌, ◌⊎◌, ◌↔◌, ◌∙◌, ℕ, Bool, true, false, IsTrue, List, [], length, Option, None, Some, Result, Ok, Err, IfErr, IfOk, inl, inr, refl, sym, subst}
-use Rattle.std.{proofs.{KnownBytes.{Keeps-refl}, lemmas.{Bool.{false≢true}, List.{length-map}}}, specs.Io.{KnownBytes.{Appends, Keeps, append_known}, Buffered.{writer_buffer, writer_contents}}}
-use Rattle.std.specs.declared.io.buffered.BufWriter.{BufWriter}
+use Rattle.std.proofs.Common.{arith, ◌≡◌, ◌⊎◌, ◌↔◌, ◌∙◌, ℕ, Bool, true, false, IsTrue, List, [], length, Option, None, Some, Result, Ok, Err, IfErr, IfOk, inl, inr, refl, sym, subst}
+use Rattle.std.{proofs.{lemmas.{Grind.{common_steps}, Bool.{false≢true}, List.{length-map}}, KnownBytes.{Keeps-refl}}, specs.Io.KnownBytes.{Appends, Keeps, append_known}}
+use Rattle.std.specs.{Io.Buffered.{writer_buffer, writer_contents}, declared.io.buffered.BufWriter.{BufWriter}}
 use Rattle.mm_report.specs.mm_keep.{declared.tally.Tally.{Tally}, Language.{Findings.{counted}, Sessions.{SessionView, HasAssertion, IsTally}, Told.{Told, counts}}}
 use Rattle.mm_report.specs.{mm_script.{declared.{error.ScriptError.{ScriptError}, stream.Writing.{Writing}}, Language.Stream.{AppendsPart, gone_out, written}}, Language.Answers.{IsAnswer}}
 use Rattle.mm_report.specs.{Language.{Laws.{CleanIsDerived}, Report.{lines, names_of}}, mm_statement.Language.{Database.{Located}, Item.{Said}}, mm_frame.Language.Base.{base_of}}
@@ -74,10 +74,4 @@ pub cut_after : {W A : Type 0} (command : Invocation) (old new : SessionView) (u
     → IfOk result (IsDone command old new unread before (written (writer_contents contents) all))
     → Keeps (written (writer_contents contents) all) (written (writer_contents contents) last)
     → IsCutOff command old new unread left before (gone_out contents last) errors.Write
-cut_after command old new unread left before contents all last result outcome is done kept =
-    let out = written (writer_contents contents) all in
-    record {
-      written = out;
-      why = inr (refl, outcome, subst (λ (r : Result Outcome ScriptError). IfOk r (IsDone command old new unread before out)) is done);
-      goes_out = goes_out out (gone_out contents last) (writer_buffer last.inner) kept;
-    }
+cut_after command old new unread left before contents all last result outcome is done kept = grind (arith, common_steps, goes_out) steps 200000

@@ -1,4 +1,4 @@
-use Rattle.std.proofs.{Common.{arith, ℕ, List, sym, subst}, lemmas.{Grind.{elements}, Bool.{MatchBool-at_false, MatchBool-at_true}, Result.{on_ok_weaker}}}
+use Rattle.std.proofs.{Common.{ℕ, List, sym, subst}, lemmas.{Bool.{MatchBool-at_false, MatchBool-at_true}, Result.{on_ok_weaker}}}
 use Rattle.mm_statement.specs.Language.Item.{Said}
 use Rattle.mm_frame.{specs.Code.{KeptBase.{IsDraft}, Numbers.{AreNameNumbers}}, proofs.lemmas.reading.KnownItems.{numbers_on}}
 use Rattle.mm_frame.proofs.again.read_known.Goals as goal
@@ -33,6 +33,3 @@ returns c =
           (put names numbers) (put all (numbers_on names all _ statement.symbols more numbers)),
     ))
     c.add_numbered.ensures
-
-pub take_known-requires : goal.take_known-requires
-take_known-requires c = grind (arith, elements)

@@ -1,6 +1,4 @@
-use Rattle.std.proofs.Common.{ℕ, List}
-use Rattle.mm_statement.specs.Language.Item.{Said}
-use Rattle.mm_frame.{specs.Code.KeptBase.{IsDraft}, proofs.lemmas.names.NumberLemmas.{begins_on}}
+use Rattle.mm_frame.proofs.lemmas.names.NumberLemmas.{begins_on}
 use Rattle.mm_frame.proofs.again.read_new.Goals as goal
 
 pub returns-clause-read : goal.returns-clause-read

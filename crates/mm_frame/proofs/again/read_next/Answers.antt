@@ -27,7 +27,7 @@ returns-in_default-clause-read c =
       read.0,
       read.1,
       λ said stands first.
-          let count = c.count.ensures ∙ (stands c.args.names.now c.distinct.ensures (λ n name there. there)).rows.count in (
+          let count = c.count.ensures ∙ (stands c.args.names.now c.distinct.ensures (λ n name there. there)).0.rows.count in (
             read.2 said stands,
             first_after beside.same c.args.files.now beside.base.now said c.args.item.now c.place_next-i.result read.0 c.one_range_says_one.ensures (λ t. c.place_next-i.ensures t ∙ count) again read.1 first,
           ),
@@ -46,7 +46,7 @@ returns-then-same-clause-read c =
       read.0,
       read.1,
       λ said stands first.
-          let number = c.place_next-i.ensures c.if-same.true ∙ c.count.ensures ∙ (stands names c.distinct.ensures (λ n name there. there)).rows.count in (
+          let number = c.place_next-i.ensures c.if-same.true ∙ c.count.ensures ∙ (stands names c.distinct.ensures (λ n name there. there)).0.rows.count in (
             λ all distinct more.
                 let now = older.later all distinct more in
                 let sound = subst (λ i. IsSoundAgain all old.items base i c.args.item.now c.in-Some.known) number (c.in-Some.ensures.sound all base now) in

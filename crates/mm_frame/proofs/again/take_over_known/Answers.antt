@@ -1,7 +1,6 @@
 use Rattle.std.proofs.{Common.{◌≡◌, true, ℕ, List, ◌∙◌, ap, sym, subst}, lemmas.Result.{on_ok_weaker}}
 use Rattle.mm_statement.specs.Language.Item.{Said, is_read}
-use Rattle.mm_frame.{specs.{Language.{Sound.{sound_items}, Framing.{expression}}, Code.{KeptScope.{uses_numbers}, Numbers.{AreNameNumbers}}}}
-use Rattle.mm_frame.proofs.lemmas.reading.KnownItems.{same_again}
+use Rattle.mm_frame.{specs.{Language.{Sound.{sound_items}, Framing.{expression}}, Code.{KeptScope.{uses_numbers}, Numbers.{AreNameNumbers}}}, proofs.lemmas.reading.KnownItems.{same_again}}
 use Rattle.mm_frame.proofs.again.take_over_known.Goals as goal
 
 pub returns : goal.returns

@@ -1,13 +1,9 @@
-use Rattle.std.proofs.{lemmas.{Bool.{false≢true}, Option.{none-some}}, Common.{refl, zero, suc, arith, codes}}
+use Rattle.std.proofs.{lemmas.{Grind.{common_steps}, Bool.{false≢true}, Option.{none-some}}, Common.{refl, zero, suc, arith, codes}}
 use Rattle.mm_frame.specs.Language.{Base.{AreLabelled}, Examples.{base}}
 use Rattle.mm_frame.proofs.examples.frames_are_read_so.Goals as goal
 
 pub returns-clause-own : goal.returns-clause-own
-returns-clause-own c = (
-  record { earlier = omega arith; carrier = record { shown = refl; label_is = refl } },
-  (λ h. false≢true h.carrier.shown),
-  (λ h. let later = h.earlier in omega (arith, later)),
-)
+returns-clause-own c = grind (arith, common_steps, false≢true) steps 200000
 
 pub returns-clause-labelled : goal.returns-clause-labelled
 returns-clause-labelled c = (labels, λ labelled. let label = labelled 0 refl in none-some label.0 label.1)

@@ -17,6 +17,3 @@ loop-n-preserved c =
 pub returns-clause-faults : goal.returns-clause-faults
 returns-clause-faults c t all =
     none_left c.args.statement.now (numbers_of c.args.symbols.now) c.loop-n.n (omega (arith, c.loop-n-test.false, c.requires.count)) (c.loop-n.invariant.0 all)
-
-pub returns-clause-sorts : goal.returns-clause-sorts
-returns-clause-sorts c t = grind (arith, common_steps) steps 200000

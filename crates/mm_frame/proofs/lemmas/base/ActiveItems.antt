@@ -1,24 +1,20 @@
 -- Which items are active at an item of a base, and what the labels of hypotheses mean there.
 use Rattle.std.proofs.lemmas.{Grind.{common_steps}, Bool.{false≢true}, List.{drop-take, drop-map, map-append}}
 use Rattle.std.proofs.Common.{◌≡◌, ◌↔◌, ℕ, suc, ◌+◌, ◌-◌, ◌<◌, Bool, true, false, ◌&&◌, Option, Some, None, List, [], ◌∷◌, ◌++◌, take, drop, slice_get, append-nil, append_assoc, refl, sym, ◌∙◌, ap}
-use Rattle.std.proofs.Common.{subst, arith}
-use Rattle.mm_statement.specs.Language.Item.{Kind, BlockStart, BlockEnd, Said}
+use Rattle.std.proofs.Common.{arith}
+use Rattle.mm_statement.specs.Language.Item.{BlockStart, BlockEnd, Said}
 use Rattle.mm_frame.specs.{declared.FrameNumber.{FrameNumber, TheVariants.{F06, F07}}, Code.BlockMarks.{block_marks, stays_by}, Language.{Numbered.{IsActive, between}, Scope.{stays}}}
-use Rattle.mm_frame.specs.Language.{Sound.{fault, judged, line_holds, sound_items, sound_items_after}, Base.{BaseView, before, said_at, is_framed_at}, Laws.{is_active_at}, Marks.{Neither, mark_of}}
+use Rattle.mm_frame.specs.Language.{Sound.{fault, judged, line_holds, sound_items_after}, Base.{BaseView, before, said_at, is_framed_at}, Laws.{is_active_at}, Marks.{Neither, mark_of}}
 use Rattle.mm_frame.{specs.Language.{Resolving.{IsLabelOf}, Framing.{expression, resolve}}, proofs.lemmas.base.ResolvingLemmas.{active_by, active_means, inactive_means}}
 use Rattle.mm_frame.proofs.lemmas.{faults.FoundFaults.{found_fault}, scope.{Activity.{active_by_blocks}, BlockLemmas.{stays_of}}}
 use Rattle.mm_machine.specs.Language.Frame.{Hypothesis, Inactive}
 
 -- what the label of a hypothesis means
 pub active_is_meant : (base : BaseView) (i j : ℕ) (label : List ℕ) → IsLabelOf base i j label → is_framed_at base j ≡ false → is_active_at base i j ≡ true → resolve (before base i) label ≡ Hypothesis (expression (before base j) (said_at base j))
-active_is_meant base i j label is hypothesis active =
-    let marks = block_marks (sound_items base) in
-    (active_means base i label j marks refl is.carrier is.earlier hypothesis (active_by base marks i j refl ∙ active)).1
+active_is_meant base i j label is hypothesis active = grind (arith, common_steps, active_by, active_means) steps 200000
 
 pub ended_is_meant : (base : BaseView) (i j : ℕ) (label : List ℕ) → IsLabelOf base i j label → is_framed_at base j ≡ false → is_active_at base i j ≡ false → resolve (before base i) label ≡ Inactive
-ended_is_meant base i j label is hypothesis ended =
-    let marks = block_marks (sound_items base) in
-    inactive_means base i label j marks refl is.carrier is.earlier hypothesis (active_by base marks i j refl ∙ ended)
+ended_is_meant base i j label is hypothesis ended = grind (arith, common_steps, active_by, inactive_means) steps 200000
 
 -- a beginning or an end of a block has no fault
 and_false : (b : Bool) → (b && false) ≡ false
@@ -36,15 +32,7 @@ end_line front x w F07 = and_false _
 end_line front x w _ = refl
 
 faulty_neither : (front : List Said) (x : Said) (w : ℕ) (n : FrameNumber) → line_holds front x w n ≡ true → mark_of x.kind ≡ Neither
-faulty_neither front x w n holds = by_kind x.kind refl
-  where
-    at_kind : (k : Kind) → x.kind ≡ k → line_holds front (record x { kind = k }) w n ≡ true
-    at_kind k is = subst (λ (k : Kind). line_holds front (record x { kind = k }) w n ≡ true) is holds
-
-    by_kind : (k : Kind) → x.kind ≡ k → mark_of k ≡ Neither
-    by_kind BlockStart is = absurd (false≢true (sym (start_line front x w n) ∙ at_kind BlockStart is))
-    by_kind BlockEnd is = absurd (false≢true (sym (end_line front x w n) ∙ at_kind BlockEnd is))
-    by_kind _ is = refl
+faulty_neither front x w n holds = grind (arith, common_steps, end_line, false≢true, start_line) steps 200000
 
 -- so what takes the place of an item does the same to the blocks
 judged_mark : (front : List Said) (x : Said) (f : Option (ℕ × FrameNumber)) → fault front x ≡ f → mark_of (judged x f).kind ≡ mark_of x.kind
@@ -76,7 +64,4 @@ stays_between base i j later =
 
 pub active_in_blocks : (base : BaseView) (i j : ℕ) (x y : Said) → stays base ≡ true → slice_get base j ≡ Some x → slice_get base i ≡ Some y
     → mark_of x.kind ≡ Neither → mark_of y.kind ≡ Neither → j < i → (is_active_at base i j ≡ true) ↔ IsActive base j i
-active_in_blocks base i j x y whole there here mine yours later =
-    let same = stays_between base i j later in
-    let by = active_by_blocks base j i x y whole there here mine yours later in
-    (λ active. by.0 (sym same ∙ active), λ active. same ∙ by.1 active)
+active_in_blocks base i j x y whole there here mine yours later = grind (arith, common_steps, active_by_blocks, stays_between) steps 200000

@@ -179,7 +179,7 @@ carrier_told base rows are label j = (
 -- the tables know it
 pub labels_told : (all : List (List ℕ)) (base : BaseView) (parts : BaseParts) → AreParts all base parts → (label : List ℕ) (j : ℕ) → (table_label parts.tables label ≡ Some j) ↔ (slice_get (rows_of parts.rows) j ≡ Some (Some label, None))
 labels_told all base parts are label j =
-    grind (arith, common_steps, carrier_told base (rows_of parts.rows) are.rows label j, are.labels label, (carrier_told base (rows_of parts.rows) are.rows label j).0, found_carrier, carrier_found) steps 200000
+    grind (arith, common_steps, carrier_found, carrier_told base (rows_of parts.rows) are.rows label j, found_carrier) steps 200000
 
 -- the label and the fault of an item, and whether it is a sound one that has a label
 pub label_told : (base : BaseView) (rows : List (Option (List ℕ) × Option (ℕ × FrameNumber))) → AreRows IsLabelTold base rows → (i : ℕ) → row_label (slice_get rows i) ≡ (said_at base i).label

@@ -1,11 +1,11 @@
 -- What is known of the sound `$f` of a base, and of the frames of its assertions.
-use Rattle.std.proofs.lemmas.{Bool.{false≢true, and_parts, and_from}, Slice.Eq.{bytes_eq-Decides}}
+use Rattle.std.proofs.lemmas.{Grind.{common_steps}, Bool.{false≢true, and_parts, and_from}, Slice.Eq.{bytes_eq-Decides}}
 use Rattle.std.proofs.Common.{◌≡◌, ◌↔◌, ℕ, ◌<◌, Bool, true, false, ◌&&◌, not, List, [], ◌++◌, take, refl, sym, ap, ◌∙◌, subst, inl, inr, arith, Contains, bytes_eq, slice_get, slice_index_or}
 use Rattle.std.specs.List.{list_any}
 use native.Mathlib.Decide.{dec_lt}
 use Rattle.mm_machine.specs.Language.{Frame.{Symbol, Mandatory, ArePair, HasVariable}, Typing.{IsFrame}}
-use Rattle.mm_statement.specs.Language.Item.{Said, has, is_assertion, is_kind, Essential, Floating, is_labelled, typecode_of, variable_of}
-use Rattle.mm_frame.specs.{declared.FrameNumber.TheVariants.{F13}, Language.{Scope.{active, active_variables, floats, symbols_by}, Sound.{IsSound, fault, is_typed_otherwise, as_second}}}
+use Rattle.mm_statement.specs.Language.Item.{Said, has, is_assertion, is_kind, Essential, Floating, typecode_of, variable_of}
+use Rattle.mm_frame.specs.{declared.FrameNumber.TheVariants.{F13}, Language.{Scope.{active, active_variables, floats, symbols_by}, Sound.{IsSound, is_typed_otherwise, as_second}}}
 use Rattle.mm_frame.specs.Language.{Framing.{active_pairs, is_mandatory_pair, mandatory_variables}, Base.{BaseView, before, frame_at, is_framed_at, is_shown_at, is_sound_at, said_at}}
 use Rattle.mm_frame.{specs.Language.Laws.{IsVariableOf, is_float_at}, proofs.lemmas.{base.BaseLemmas.{kept_are_sound, none_told}, faults.FoundFaults.{no_fault_sound}}}
 use Rattle.mm_frame.proofs.lemmas.{scope.{Facts.{float_two, no_symbol_of}, SoundItems.{in_any}}, lists.Members.{In, contains_in, from_filter, get_in, in_contains, in_filter, in_has, in_left}}
@@ -13,9 +13,7 @@ use Rattle.mm_frame.proofs.lemmas.frames.{FrameNumbers.{shown_before}, Frames.{a
 
 -- a sound item with a label is sound after the items before it
 pub shown_sound : (base : BaseView) (j : ℕ) → is_shown_at base j ≡ true → IsSound (before base j) (said_at base j)
-shown_sound base j shown =
-    let item = said_at base j in
-    no_fault_sound (before base j) item (none_told item.kind (fault (before base j) item) (and_parts (is_sound_at base j) (is_labelled item.kind) shown).0)
+shown_sound base j shown = grind (arith, common_steps, and_parts, no_fault_sound, none_told) steps 200000
 
 -- a `$f` has the typecode of each `$f` of its variable before it
 second_false : (a b : Bool) → (a && not b) ≡ false → a ≡ true → b ≡ true

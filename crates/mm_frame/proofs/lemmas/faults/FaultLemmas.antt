@@ -87,8 +87,7 @@ next_fault item numbers n l p before h k a = p.rest before h k a ∙ first_fault
 pub fault_there : {all : List (List ℕ)} {scope : Scope} (item : Said) (numbers : List ℕ) (n word : ℕ) (number : FrameNumber) → n < length item.symbols → word ≡ first_symbol item + n → Passes all scope item numbers n
     → Judged all scope item numbers (λ before. Some number ≡ symbol_fault before item n (get_or item.symbols n []))
     → Judged all scope item numbers (λ before. ◌≡◌ {A = Option (ℕ × FrameNumber)} (Some (word, number)) (symbols_fault before item))
-fault_there item numbers n word number l w p f before h k a =
-    (λ i. fault_or (w i) (f before h k a i) (first_fault (symbol_fault before item) (suc (first_symbol item + n)) (suc n) (drop (suc n) item.symbols))) ∙ sym (next_fault item numbers n l p before h k a)
+fault_there item numbers n word number l w p f before h k a = grind (arith, common_steps, next_fault item numbers n l p before h k a) steps 200000
 
 -- no symbol is left
 pub none_left : {all : List (List ℕ)} {scope : Scope} (item : Said) (numbers : List ℕ) (n : ℕ) → length item.symbols ≤ n → Passes all scope item numbers n → Judged all scope item numbers (λ before. None ≡ symbols_fault before item)

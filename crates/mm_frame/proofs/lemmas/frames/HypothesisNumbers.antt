@@ -15,8 +15,7 @@ use Rattle.mm_statement.specs.Language.Item.{Said, passed, is_kind, Essential, F
 numbered : (test : Said → Bool) (n : ℕ) (items : List Said) (k : ℕ) (x : Said) → slice_get items k ≡ Some x → stays (drop (suc k) items) ≡ true → test x ≡ true → In (n + k) (active_numbers_from test n items)
 numbered test n [] k x e s t = cc
 numbered test n (y ∷ ys) zero x e s t = grind (arith, common_steps, and_from, in_first) steps 200000
-numbered test n (y ∷ ys) (suc k) x e s t =
-    grind (arith, common_steps, in_later (stays ys && test y) (suc n + k) n (active_numbers_from test (suc n) ys) (numbered test (suc n) ys k x e s t)) steps 200000
+numbered test n (y ∷ ys) (suc k) x e s t = grind (arith, common_steps, numbered test (suc n) ys k x e s t, in_later) steps 200000
 
 -- the item of a number
 record Numbered (test : Said → Bool) (n : ℕ) (items : List Said) (m : ℕ) : Type 0 where

@@ -1,8 +1,7 @@
 -- Lists that are the same element by element, and readings of numbers that are the same.
-use Rattle.std.proofs.lemmas.{Grind.{common_steps}, Bool.{false≢true}, Option.{slice_get-get_or}}
-use Rattle.std.{proofs.Common.{◌≡◌, ℕ, suc, ◌+◌, ◌<◌, Bool, true, false, ◌&&◌, Some, List, [], ◌∷◌, length, map, slice_get, refl, sym, ◌∙◌, arith, All}, specs.Bool.{Decides}}
-use Rattle.mm_machine.specs.{declared.symbol.NumberedSymbol.{NumberedSymbol}, Language.Names.{AreDistinct, name_at}}
-use Rattle.mm_machine.specs.Language.NumberedSymbols.{symbol_of, symbols_of, pair_of, kept_pairs, IsNumbered, IsPairNumbered}
+use Rattle.std.proofs.{Common.{rules, ◌≡◌, ℕ, suc, ◌+◌, ◌<◌, Bool, true, false, ◌&&◌, Some, List, [], ◌∷◌, length, map, slice_get, refl, arith, All}, lemmas.{Grind.{common_steps}, Bool.{false≢true}}}
+use Rattle.std.{proofs.lemmas.Option.{slice_get-get_or}, specs.Bool.{Decides}}
+use Rattle.mm_machine.specs.{declared.symbol.NumberedSymbol.{NumberedSymbol}, Language.{Names.{AreDistinct}, NumberedSymbols.{symbol_of, symbols_of, pair_of, kept_pairs, IsNumbered, IsPairNumbered}}}
 
 -- under these functions, this many elements of two lists are the same
 abbrev pub AreSameTo : {X Y Z : Type 0} → (X → Z) → (Y → Z) → List X → List Y → ℕ → Type 0
@@ -20,15 +19,12 @@ same_whole f g _ _ h l = absurd (omega arith)
 
 -- equal readings have equal numbers
 number_from_reading : (all : List (List ℕ)) → AreDistinct all → (x y : NumberedSymbol) → IsNumbered all x → IsNumbered all y → symbol_of all x ≡ symbol_of all y → x ≡ y
-number_from_reading all distinct x y p q e =
-    let name : x.name ≡ y.name = distinct x.name y.name (name_at all x.name) (slice_get-get_or all x.name [] p) (slice_get-get_or all y.name [] q ∙ (λ i. Some (sym e i).name)) in
-    λ i. record { name = name i; variable = (e i).variable }
+number_from_reading all distinct x y p q e = search (rules, slice_get-get_or all x.name [] p, slice_get-get_or all y.name [] q)
 
 pub numbers_from_readings : (all : List (List ℕ)) → AreDistinct all → (xs ys : List NumberedSymbol) → All (IsNumbered all) xs → All (IsNumbered all) ys → symbols_of all xs ≡ symbols_of all ys → xs ≡ ys
 numbers_from_readings all distinct [] [] p q e = refl
 numbers_from_readings all distinct (x ∷ xs) (y ∷ ys) p q e =
-    let a = number_from_reading all distinct x y (p 0 x (omega arith)) (q 0 y (omega arith)) cc in
-    λ i. a i ∷ (numbers_from_readings all distinct xs ys (λ k d h. p (suc k) d (omega (arith, h))) (λ k d h. q (suc k) d (omega (arith, h))) cc) i
+    search (rules, numbers_from_readings all distinct xs ys (λ k d h. p (suc k) d (omega (arith, h))) (λ k d h. q (suc k) d (omega (arith, h))) cc, number_from_reading all distinct x y (p 0 x (omega arith)) (q 0 y (omega arith)) cc)
 numbers_from_readings all distinct _ _ p q e = cc
 
 pub pair_from_reading : (all : List (List ℕ)) → AreDistinct all → (x y : NumberedSymbol × NumberedSymbol) → IsPairNumbered all x → IsPairNumbered all y → pair_of all x ≡ pair_of all y → x ≡ y
@@ -37,8 +33,7 @@ pair_from_reading all distinct x y m n e = grind (arith, common_steps, number_fr
 pub pairs_from_readings : (all : List (List ℕ)) → AreDistinct all → (xs ys : List (NumberedSymbol × NumberedSymbol)) → All (IsPairNumbered all) xs → All (IsPairNumbered all) ys → kept_pairs all xs ≡ kept_pairs all ys → xs ≡ ys
 pairs_from_readings all distinct [] [] p q e = refl
 pairs_from_readings all distinct (x ∷ xs) (y ∷ ys) p q e =
-    let a = pair_from_reading all distinct x y (p 0 x (omega arith)) (q 0 y (omega arith)) cc in
-    λ i. a i ∷ (pairs_from_readings all distinct xs ys (λ k d h. p (suc k) d (omega (arith, h))) (λ k d h. q (suc k) d (omega (arith, h))) cc) i
+    search (rules, pairs_from_readings all distinct xs ys (λ k d h. p (suc k) d (omega (arith, h))) (λ k d h. q (suc k) d (omega (arith, h))) cc, pair_from_reading all distinct x y (p 0 x (omega arith)) (q 0 y (omega arith)) cc)
 pairs_from_readings all distinct _ _ p q e = cc
 
 -- two tests together

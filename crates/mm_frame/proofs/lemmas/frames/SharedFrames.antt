@@ -1,7 +1,6 @@
 -- Assertions with the same mandatory hypotheses and the same active `$d` have the same mandatory pairs.
 use Rattle.std.proofs.lemmas.{Grind.{common_steps}, Bool.{or_cases, and_parts}, Option.{slice_get_within, slice_get-get_or, get_or_from_slice_get, same_Some}, List.{take-append-le}}
-use Rattle.std.proofs.Common.{◌≡◌, ℕ, ◌<◌, Bool, true, ◌&&◌, Option, Some, None, List, [], ◌∷◌, ◌++◌, length, take, drop, filter, flat_map, slice_get, refl, sym, ◌∙◌, ap, subst, arith, inl, inr}
-use Rattle.std.proofs.Common.{take-append-drop}
+use Rattle.std.proofs.Common.{◌≡◌, ℕ, ◌<◌, Bool, true, Option, Some, None, List, [], ◌∷◌, ◌++◌, length, take, drop, filter, flat_map, slice_get, refl, sym, ◌∙◌, ap, subst, arith, take-append-drop}
 use Rattle.mm_frame.specs.{declared.{frame.Frame.{Frame}, frames.Frames.{Frames}}, Language.{Scope.{active_numbers}, Sound.{AreSound, sound_items}}}
 use Rattle.mm_frame.specs.Language.Answering.{AreRows, are_paired, numbers_if, pairs_in_order, told_numbers, typed_variables}
 use Rattle.mm_frame.specs.Language.Framing.{active_pairs, expression, frame, is_mandatory, mandatory_hypotheses, mandatory_numbers, mandatory_variables, pairs_of}
@@ -11,7 +10,7 @@ use Rattle.mm_frame.proofs.lemmas.{frames.{Frames.{float_labelled}, HypothesisNu
 use Rattle.mm_frame.proofs.lemmas.pairs.{ActivePairLemmas.{expression_at_number, flat_same}, FramePairs.{active_in_order, typed_by_numbers, variables_if}, PairListLemmas.{whole_front}}
 use Rattle.mm_frame.proofs.lemmas.scope.Facts.{sound_front}
 use Rattle.mm_machine.specs.Language.{Frame.{Symbol}, NumberedSymbols.{ArePairsRead}}
-use Rattle.mm_statement.specs.Language.Item.{Said, passed, is_kind, is_labelled, Essential, Floating, has, item_at, variable_of}
+use Rattle.mm_statement.specs.Language.Item.{Said, passed, is_kind, is_labelled, Floating, item_at}
 
 -- a mandatory hypothesis reads after all items as at its own place
 record OwnPlace (before : List Said) (n : ℕ) : Type 0 where
@@ -20,13 +19,7 @@ record OwnPlace (before : List Said) (n : ℕ) : Type 0 where
   same : expression before item ≡ expression (take n before) item
 
 mandatory_labelled : (mandatory : List (List ℕ)) (x : Said) → is_mandatory mandatory x ≡ true → is_labelled x.kind ≡ true
-mandatory_labelled mandatory x m = elim (or_cases (is_kind Essential x.kind) (is_kind Floating x.kind && has mandatory (variable_of x)) m) [
-  | inl e ↦ essential_labelled e
-  | inr b ↦ float_labelled x.kind (and_parts (is_kind Floating x.kind) (has mandatory (variable_of x)) b).0
-]
-  where
-    essential_labelled : is_kind Essential x.kind ≡ true → is_labelled x.kind ≡ true
-    essential_labelled e = grind (arith, common_steps) steps 200000
+mandatory_labelled mandatory x m = grind (arith, common_steps, and_parts, float_labelled, or_cases) steps 200000
 
 own_place : (before : List Said) (item : Said) (n : ℕ) → AreSound before → In n (mandatory_numbers before item) → OwnPlace before n
 own_place before item n h m =

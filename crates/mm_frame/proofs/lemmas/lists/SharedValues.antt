@@ -24,9 +24,7 @@ value_stays values more (Some n) h = elim (slice_get_cases values n).1 [
 pub values_stay : {X : Type 0} (values more : List X) (places : List (Option ℕ)) → AreBelow (length values) places → map (value_at (values ++ more)) places ≡ map (value_at values) places
 values_stay values more [] h = refl
 values_stay values more (p ∷ places) h =
-    let one = value_stays values more p (λ n e. h 0 n (ap Some e)) in
-    let rest = values_stay values more places (λ k n e. h (suc k) n e) in
-    λ i. one i ∷ rest i
+    grind (arith, common_steps, values_stay values more places (λ k n e. h (suc k) n e), value_stays values more p (λ n e. h 0 n (ap Some e))) steps 200000
 
 -- an item that has a value
 pub value_there : {X : Type 0} (kept : List (Option X)) (n : ℕ) (x : X) → value_kept kept n ≡ Some x → slice_get kept n ≡ Some (Some x)
@@ -45,10 +43,7 @@ has_value values places n h = some_at values (value_kept places n) (λ place e. 
 
 -- one more item
 pub below_more : (count : ℕ) (places : List (Option ℕ)) (place : Option ℕ) → AreBelow count places → ((n : ℕ) → place ≡ Some n → n < count) → AreBelow count (places ++ place ∷ [])
-below_more count places place h k n at e = elim (get_cases places place (Some at) n e) [
-  | inl there ↦ h n at there
-  | inr last ↦ k at (last.1)
-]
+below_more count places place h k n at e = grind (arith, common_steps, get_cases places place (Some at) n e) steps 200000
 
 -- or none, if there is no memory
 pub still_below : {T E : Type 0} (count : ℕ) (old new : List (Option ℕ)) (place : Option ℕ) (r : Result T E) → OnOk r (new ≡ old ++ place ∷ []) → OnErr r (new ≡ old)
@@ -59,14 +54,12 @@ still_below count old new place (Err e) ok err h k = subst (AreBelow count) (sym
 pub shared_push : {X T E : Type 0} (values more : List X) (old new : List (Option ℕ)) (place : Option ℕ) (kept : List (Option X)) (r : Result T E) → OnOk r (new ≡ old ++ place ∷ [])
     → AreBelow (length values) old → map (value_at values) old ≡ kept → OnOk r (map (value_at (values ++ more)) new ≡ kept ++ value_at (values ++ more) place ∷ [])
 shared_push values more old new place kept (Ok u) ok h view =
-    ap (map (value_at (values ++ more))) ok ∙ map-append (value_at (values ++ more)) old (place ∷ [])
-    ∙ ap (λ w. w ++ value_at (values ++ more) place ∷ []) (values_stay values more old h ∙ view)
+    grind (arith, common_steps, map-append (value_at (values ++ more)) old (place ∷ []), values_stay values more old h) steps 200000
 shared_push values more old new place kept (Err e) ok h view = tt
 
 -- or with what an earlier one has
 pub shared_again : {X T E : Type 0} (values : List X) (old new : List (Option ℕ)) (place : Option ℕ) (number : ℕ) (kept : List (Option X)) (r : Result T E) → OnOk r (new ≡ old ++ place ∷ [])
     → place ≡ value_kept old number → map (value_at values) old ≡ kept → OnOk r (map (value_at values) new ≡ kept ++ value_kept kept number ∷ [])
 shared_again values old new place number kept (Ok u) ok e view =
-    let one = ap (value_at values) e ∙ sym (value_of values old number) ∙ ap (λ w. value_kept w number) view in
-    ap (map (value_at values)) ok ∙ map-append (value_at values) old (place ∷ []) ∙ (λ i. view i ++ one i ∷ [])
+    grind (arith, common_steps, map-append (value_at values) old (place ∷ []), value_of values old number) steps 200000
 shared_again values old new place number kept (Err e) ok f view = tt

@@ -20,7 +20,7 @@ pub short_put : (old new : LabelNumbers) (label other : List ℕ) (number : ℕ)
     → label_number new other ≡ cond (bytes_eq label other) (Some number) (label_number old other)
 unfolding label_number
 short_put old new label other number s long put =
-    grind (arith, common_steps, put (bytes_code other), same_code label other, and_parts, bytes_eq-Decides label other, false_from_ne_true, cases_Bool (is_coded other)) steps 200000
+    grind (arith, common_steps, and_parts, bytes_eq-Decides, cases_Bool, false_from_ne_true, same_code) steps 200000
 
 -- what is kept after one more long label
 pub long_put : (old new : LabelNumbers) (label other : List ℕ) (number : ℕ) → is_coded label ≡ false → new.short ≡ old.short
@@ -28,4 +28,4 @@ pub long_put : (old new : LabelNumbers) (label other : List ℕ) (number : ℕ) 
     → label_number new other ≡ cond (bytes_eq label other) (Some number) (label_number old other)
 unfolding label_number
 long_put old new label other number s short put =
-    grind (arith, common_steps, put other, bytes_eq-Decides label other, false_from_ne_true, cases_Bool (is_coded other)) steps 200000
+    grind (arith, common_steps, bytes_eq-Decides label other, cases_Bool (is_coded other), false_from_ne_true) steps 200000

@@ -1,11 +1,10 @@
 -- Names by their numbers, and lists of names that grow.
 use Rattle.std.proofs.Common.{OnErr, Result, IfOk, ◌≡◌, ℕ, zero, suc, ◌+◌, ◌<◌, Option, Bool, true, false, not, ◌||◌, cond, Some, None, List, [], ◌∷◌, ◌++◌, length, map, get_or, refl, sym, ap, ◌∙◌}
-use Rattle.std.proofs.{Common.{arith, slice_get, position, Vec, if◌then◌else◌}, lemmas.{Grind.{common_steps}, Bool.{false≢true, ltb-true, ltb-false}, Slice.Eq.{bytes_eq-Decides}}}
-use Rattle.std.proofs.lemmas.{List.{map_push, length-map}, Map.Keys.{apart_from_distinct}, Option.{same_Some, slice_get_within, slice_get-get_or, get_or_from_slice_get}}
-use Rattle.std.specs.{List.{IsDistinct, list_any, position_or_len}, Str.{bytes_eq}}
+use Rattle.std.proofs.{Common.{arith, slice_get, position, Vec}, lemmas.{Grind.{common_steps}, Bool.{false≢true, ltb-true, ltb-false}, Slice.Eq.{bytes_eq-Decides}, List.{map_push, length-map}}}
+use Rattle.std.{proofs.lemmas.{Map.Keys.{apart_from_distinct}, Option.{same_Some, slice_get_within, slice_get-get_or, get_or_from_slice_get}}, specs.List.{IsDistinct, list_any, position_or_len}}
+use Rattle.std.specs.Str.{bytes_eq}
 use Rattle.mm_frame.{proofs.lemmas.lists.Members.{get_join}, specs.Code.{Numbers.{number_in, IsNameNumber, AreNameNumbers}, KeptTables.{declared_at, declared_for, table_name}}}
 use Rattle.mm_frame.specs.declared.tables.Tables.{Tables}
-use native.Mathlib.Decide.{dec_lt}
 use Rattle.indexmap.specs.IndexSet.{insert_key}
 use Rattle.mm_machine.specs.Language.Names.{Begins, AreDistinct, name_at}
 
@@ -31,20 +30,12 @@ module _ {Y : Type 0} where
 
   -- keys of which no two are equal have distinct names
   pub distinct_names : (keys : List (Vec ℕ Y)) → IsDistinct (λ x y. bytes_eq x.items y.items) keys → AreDistinct (map (λ key. key.items) keys)
-  distinct_names keys distinct i j name p q = elim (dec_lt i j) [
-    | yes l ↦ absurd (apart keys i j name distinct l p q)
-    | no m ↦ elim (dec_lt j i) [
-      | yes l ↦ absurd (apart keys j i name distinct l q p)
-      | no k ↦ omega arith
-    ]
-  ]
+  distinct_names keys distinct i j name p q = grind (arith, common_steps, apart) steps 200000
 
   -- a new key goes last
   pub inserted : (keys : List (Vec ℕ Y)) (key : Vec ℕ Y) (name : List ℕ) → key.items ≡ name → list_any (λ other. bytes_eq name other.items) keys ≡ false
       → map (λ key. key.items) (insert_key (λ x y. bytes_eq x.items y.items) keys key) ≡ map (λ key. key.items) keys ++ name ∷ []
-  inserted keys key name is new =
-      let none : list_any (λ other. bytes_eq key.items other.items) keys ≡ false = ap (λ n. list_any (λ other. bytes_eq n other.items) keys) is ∙ new in
-      ap (λ b. map (λ key. key.items) (if b then keys else keys ++ key ∷ [])) none ∙ map_push (λ key. key.items) keys key ∙ ap (λ n. map (λ key. key.items) keys ++ n ∷ []) is
+  inserted keys key name is new = grind (arith, common_steps, map_push (λ key. key.items) keys key) steps 200000
 
 before_map : {X Y : Type 0} (test : Y → Bool) (f : X → Y) (xs : List X) → position_or_len test (map f xs) ≡ position_or_len (λ x. test (f x)) xs
 before_map test f [] = refl

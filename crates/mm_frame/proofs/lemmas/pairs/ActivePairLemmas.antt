@@ -1,5 +1,5 @@
 -- Active pairs: they grow by those of each `$d`, an active statement reads at its own place as after all items, and which `$d` has a pair.
-use Rattle.std.proofs.lemmas.{List.{map_push}, Grind.{common_steps}, Bool.{false≢true, or_cases, or_left, or_right, or_parts, and_from, false_from_ne_true, not-false, and_parts}}
+use Rattle.std.proofs.lemmas.{Grind.{common_steps}, List.{map_push}, Bool.{false≢true, or_cases, or_left, or_right, or_parts, and_from, false_from_ne_true, not-false, and_parts}}
 use Rattle.std.proofs.lemmas.{Option.{get_or_from_slice_get}, Slice.Eq.{bytes_eq-Decides}}
 use Rattle.std.proofs.Common.{take-suc, ◌≡◌, ◌≢◌, ℕ, suc, ◌<◌, Bool, true, false, cond, ◌&&◌, ◌||◌, Some, List, [], ◌∷◌, ◌++◌, length, map, filter, flat_map, take, drop, slice_get, get_or, bytes_eq}
 use Rattle.std.proofs.{Common.{refl, sym, ◌∙◌, ap, subst, arith, inl, inr, ◌⊎◌}, Math.Seq.{drop-cons}}

@@ -1,5 +1,5 @@
 -- Sorted lists, some of them made of two others: they stay as they are while more lists come.
-use Rattle.std.proofs.Common.{◌≡◌, ℕ, ◌<◌, Some, List, [], ◌++◌, length, slice_get, All, sym, ◌∙◌, ap, subst, append-nil, arith, inl, inr}
+use Rattle.std.proofs.{Common.{rules, ◌≡◌, ℕ, ◌<◌, Some, List, [], ◌++◌, length, slice_get, All, sym, ◌∙◌, ap, subst, append-nil, arith, inl, inr}, lemmas.Grind.{common_steps}}
 use Rattle.std.proofs.lemmas.{List.Elements.{All-append, Contains-append_cases, Contains-append_left, Contains-append_right}, Option.{slice_get_within, slice_get_cases}}
 use Rattle.mm_frame.{specs.Code.KeptSortedLists.{HasBoth, HasSame, IsJoined, IsOfBoth, IsThere, KeepsAll, Kept, list_at, pairs_or_none}, proofs.lemmas.lists.Members.{get_join}}
 use Rattle.mm_frame.proofs.lemmas.pairs.PairOrderLemmas.{IsLowFirst}
@@ -13,30 +13,19 @@ pub is_within : (lists : List Kept) (k : ℕ) (list : Kept) → slice_get lists 
 is_within lists k list there = slice_get_within lists k list there
 
 pub same_at : (old new : List Kept) (k : ℕ) → KeepsAll old new → k < length old → list_at new k ≡ list_at old k
-same_at old new k keeps within = elim (slice_get_cases old k).1 [
-  | inl p ↦ ap pairs_or_none (stays_there old new k p.0 keeps p.2 ∙ sym p.2)
-  | inr p ↦ absurd (omega (arith, within, p.0))
-]
+same_at old new k keeps within = grind (arith, common_steps, slice_get_cases, stays_there) steps 200000
 
 pub of_both_stays : (one other : List (NumberedSymbol × NumberedSymbol)) (old new : List Kept) (k : ℕ) → KeepsAll old new → IsOfBoth one other old k → IsOfBoth one other new k
 of_both_stays one other old new k keeps is = record { both = is.both; there = record { list = is.there.list; there = stays_there old new k is.there.list keeps is.there.there; same = is.there.same }; has = is.has }
 
 longer : (old new : List Kept) (n : ℕ) → KeepsAll old new → n < length old → n < length new
-longer old new n keeps within = elim (slice_get_cases old n).1 [
-  | inl p ↦ is_within new n p.0 (stays_there old new n p.0 keeps p.2)
-  | inr p ↦ absurd (omega (arith, within, p.0))
-]
+longer old new n keeps within = grind (arith, common_steps, is_within, slice_get_cases, stays_there) steps 200000
 
 still_both : (old new : List Kept) (first second k : ℕ) → KeepsAll old new → first < length old → second < length old → IsOfBoth (list_at old first) (list_at old second) new k → IsJoined new first second k
-still_both old new first second k keeps one two is = record {
-  first_there = longer old new first keeps one;
-  second_there = longer old new second keeps two;
-  is = subst (λ w. IsOfBoth w (list_at new second) new k) (sym (same_at old new first keeps one)) (subst (λ w. IsOfBoth (list_at old first) w new k) (sym (same_at old new second keeps two)) is);
-}
+still_both old new first second k keeps one two is = grind (arith, common_steps, longer, same_at) steps 200000
 
 pub joined_stays : (old new : List Kept) (first second k : ℕ) → KeepsAll old new → IsJoined old first second k → IsJoined new first second k
-joined_stays old new first second k keeps is =
-    still_both old new first second k keeps is.first_there is.second_there (of_both_stays (list_at old first) (list_at old second) old new k keeps is.is)
+joined_stays old new first second k keeps is = search (rules, of_both_stays, still_both)
 
 -- one more that was made of two
 pub one_joined : (old new : List Kept) (first second k : ℕ) (both : List (NumberedSymbol × NumberedSymbol)) → KeepsAll old new → first < length old → second < length old
@@ -76,13 +65,8 @@ adds_nothing lists first second none within =
     })
 
 pub nothing_adds : (lists : List Kept) (first second : ℕ) → list_at lists first ≡ [] → second < length lists → IsOfBoth (list_at lists first) (list_at lists second) lists second
-nothing_adds lists first second none within =
-    let other = list_at lists second in
-    subst (λ w. IsOfBoth w other lists second) (sym none) (record { both = other; there = there_at lists second within; has = record { same = (λ p q. q, λ p q. q); order = λ a b. b } })
+nothing_adds lists first second none within = grind (arith, common_steps, there_at lists second within) steps 200000
 
 -- and a list with pairs is there
 pub some_within : (lists : List Kept) (k : ℕ) → (list_at lists k ≡ [] → ⊥) → k < length lists
-some_within lists k some = elim (slice_get_cases lists k).1 [
-  | inl p ↦ p.1
-  | inr p ↦ absurd (some (ap pairs_or_none p.1))
-]
+some_within lists k some = grind (arith, common_steps, slice_get_cases lists k) steps 200000

@@ -1,5 +1,5 @@
 -- What an older base says of an item that is the same bytes as one of its items.
-use Rattle.std.proofs.{Common.{◌≡◌, ℕ, zero, suc, Some, List, [], ◌∷◌, map, get_or, length, sym, ◌∙◌, ap, subst, All, slice_get}, lemmas.List.{length-map, Elements.{All-get_or}}}
+use Rattle.std.proofs.{Common.{rules, ◌≡◌, ℕ, zero, suc, Some, List, [], ◌∷◌, map, get_or, length, sym, ◌∙◌, ap, subst, All, slice_get}, lemmas.List.{length-map, Elements.{All-get_or}}}
 use Rattle.std.{proofs.lemmas.Option.{same_Some, slice_get_within, slice_get-get_or, slice_get-map, get_or_from_slice_get}, specs.{Option.{option_map}, List.{AllZip}}}
 use Rattle.mm_store.specs.Language.FilesView.{FilesView}
 use Rattle.mm_machine.specs.{declared.symbol.NumberedSymbol.{NumberedSymbol}, Language.{Frame.{Symbol}, Names.{Begins, name_at}, NumberedSymbols.{symbol_of, symbols_of, IsNumbered}}}
@@ -39,5 +39,4 @@ pub numbers_on : (one two : List (List ℕ)) (numbers : List ℕ) (symbols : Lis
 numbers_on one two numbers symbols more h = record { count = h.count; each = λ i n there. more n (get_or symbols i []) (h.each i n there) }
 
 pub older_on : (one two : List (List ℕ)) (files : FilesView) (answers : BaseAnswers) → Begins one two → HasOlder one files answers → HasOlder two files answers
-older_on one two files answers more older =
-    (older.0, record { later = λ all distinct on. older.1.later all distinct (begins_on one two all more on); each = older.1.each })
+older_on one two files answers more older = search (rules, begins_on)

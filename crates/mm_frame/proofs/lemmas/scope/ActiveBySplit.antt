@@ -1,5 +1,6 @@
 -- What is active, by how the list is split.
-use Rattle.std.proofs.{lemmas.Bool.{ne_eqb, Decides.{Decides-eqb}}, Common.{◌≡◌, ℕ, zero, suc, pred, ◌≤◌, ◌==◌, true, cond, List, [], ◌∷◌, ◌++◌, refl, sym, ◌∙◌, ap, subst, arith, inl, inr}}
+use Rattle.std.proofs.lemmas.{Grind.{common_steps}, Bool.{ne_eqb, Decides.{Decides-eqb}}}
+use Rattle.std.proofs.Common.{◌≡◌, ℕ, zero, suc, pred, ◌≤◌, ◌==◌, true, cond, List, [], ◌∷◌, ◌++◌, refl, sym, ◌∙◌, ap, subst, arith, inl, inr}
 use Rattle.mm_frame.{proofs.lemmas.lists.Members.{first_cases, in_first, in_later, In, in_right}, specs.Language.Scope.{is_start, is_end, closed, stays, active}}
 use Rattle.mm_frame.specs.{Language.Marks.{Mark, Opens, Closes, Neither, mark_of}, Code.BlockMarks.{closed_at, is_zero}}
 use Rattle.mm_statement.specs.Language.Item.{Kind, BlockStart, BlockEnd, Said, is_kind}
@@ -35,20 +36,14 @@ closed_more Neither c d l = l
 closed_more _ _ _ l = omega arith
 
 counted_more : (x : Said) (c d : ℕ) → c ≤ d → counted x c ≤ counted x d
-counted_more x c d l =
-    subst (λ a. a ≤ counted x d) (sym (counted_mark x.kind c))
-    (subst (λ b. closed_at (mark_of x.kind) c ≤ b) (sym (counted_mark x.kind d)) (closed_more (mark_of x.kind) c d l))
+counted_more x c d l = grind (arith, common_steps, closed_more (mark_of x.kind) c d l, counted_mark x.kind c, counted_mark x.kind d) steps 200000
 
 -- an item that closes no block, and one that is no `$}`
 pub stays_neither : (x : Said) (xs : List Said) → mark_of x.kind ≡ Neither → stays xs ≡ true → stays (x ∷ xs) ≡ true
 stays_neither x xs m h = none_closed (x ∷ xs) (counted_mark x.kind (closed xs) ∙ ap (λ k. closed_at k (closed xs)) m ∙ closed_none xs h)
 
 pub closed_one : (x : Said) → (mark_of x.kind ≡ Closes → ⊥) → closed (x ∷ []) ≡ 0
-closed_one x c = counted_mark x.kind 0 ∙ by_mark (mark_of x.kind) refl
-  where
-    by_mark : (m : Mark) → mark_of x.kind ≡ m → closed_at m 0 ≡ 0
-    by_mark Closes e = absurd (c e)
-    by_mark _ e = refl
+closed_one x c = grind (arith, common_steps, counted_mark x.kind 0) steps 200000
 
 closed_front : (xs ys : List Said) → closed xs ≤ closed (xs ++ ys)
 closed_front [] ys = omega arith

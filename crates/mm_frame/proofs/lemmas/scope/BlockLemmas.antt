@@ -269,10 +269,7 @@ module _ (blocks : List ℕ) (ends : List (Option ℕ)) (outer rest : List ℕ) 
   ]
 
   ended_newest : next ≤ length ends
-  ended_newest = elim p [
-    | inl e ↦ (let a = k.numbered (length rest) next (subst (λ w. slice_get w (length rest) ≡ Some next) (sym e) (get_last rest next (length rest) refl)) in omega arith)
-    | inr e ↦ omega arith
-  ]
+  ended_newest = grind (arith, common_steps, get_last rest next (length rest) refl) steps 200000
 
   -- the block of an earlier item ended, or ends now, or is open
   ended_block : (count : length marks ≡ length blocks) (item block : ℕ) (end : Option ℕ) → item < length blocks → end_of_block ends block ≡ end → Stands (outer ++ current ∷ []) (drop (suc item) marks) block item end
@@ -316,11 +313,7 @@ module _ (blocks : List ℕ) (ends : List (Option ℕ)) (outer rest : List ℕ) 
   }
 
   same_before : (block n : ℕ) → n < 0 + length blocks → is_at (end_of_block (closing ends current (length blocks)) block) n ≡ is_at (end_of_block ends block) n
-  same_before block n w = elim (same_or_not block current) [
-    | inl e ↦ ap (λ end. is_at end n) (ap (λ b. end_of_block (closing ends current (length blocks)) b) e ∙ end_of_closed ends current (length blocks) l) ∙
-        ne_eqb (length blocks) n (λ q. omega arith) ∙ ap (λ end. is_at end n) (sym (ap (λ b. end_of_block ends b) e ∙ innermost))
-    | inr e ↦ ap (λ end. is_at end n) (end_of_other ends current (length blocks) block e)
-  ]
+  same_before block n w = grind (arith, common_steps, end_of_closed, end_of_other, innermost, ne_eqb, same_or_not) steps 200000
 
   pub ended_marks : marks_from (closing ends current (length blocks)) 0 0 (blocks ++ next ∷ []) ≡ marks_from ends 0 0 blocks ++ Closes ∷ []
   ended_marks =

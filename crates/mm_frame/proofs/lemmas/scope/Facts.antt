@@ -28,16 +28,10 @@ last_or_earlier : (items : List Said) (item : Said) (front : List Said) (x : Sai
 last_or_earlier [] item [] x back e = inr (refl, cc)
 last_or_earlier [] item (y ∷ front) x back e = absurd (omega (arith, ap length e, length-append front (x ∷ back)))
 last_or_earlier (y ∷ items) item [] x back e = let q : y ≡ x = cc in inl (items, ap (λ w. w ∷ items) q)
-last_or_earlier (y ∷ items) item (z ∷ front) x back e = let q : y ≡ z = cc in elim (last_or_earlier items item front x back cc) [
-  | inl r ↦ inl (r.0, λ i. q i ∷ r.1 i)
-  | inr r ↦ inr (λ i. q i ∷ r.0 i, r.1)
-]
+last_or_earlier (y ∷ items) item (z ∷ front) x back e = grind (arith, common_steps, last_or_earlier items item front x back cc) steps 200000
 
 pub sound_more : (items : List Said) (item : Said) → AreSound items → IsSound items item → AreSound (items ++ item ∷ [])
-sound_more items item h s front x back e = elim (last_or_earlier items item front x back e) [
-  | inl r ↦ h front x r.0 r.1
-  | inr r ↦ subst (λ w. IsSound w x) r.0 (subst (IsSound items) r.1 s)
-]
+sound_more items item h s front x back e = grind (arith, common_steps, last_or_earlier items item front x back e) steps 200000
 
 -- no constant is a variable
 abbrev pub AreApart : List Said → Type 0

@@ -24,7 +24,7 @@ pub told_of : (all : List (List ℕ)) (old new : Tables) (n : ℕ) (name other :
     → IsNameNumber all n name → ((m : ℕ) → declared_at new m ≡ cond (nat_eq m n) (f (declared_at old m)) (declared_at old m))
     → table_name all new other ≡ cond (bytes_eq name other) (f (table_name all old other)) (table_name all old other)
 told_of all old new n name other f distinct there put =
-    grind (arith, common_steps, bytes_eq-Decides, false≢true, first_found, ltb-true, same_Some, number_of_named, eqb_tells, same_Some) steps 200000
+    grind (arith, common_steps, bytes_eq-Decides, eqb_tells, false≢true, first_found, ltb-true, number_of_named, same_Some) steps 200000
 
 -- what is put at the number of a name
 pub types_one : (all : List (List ℕ)) (old new : Tables) (n : ℕ) (name : List ℕ) (number : ℕ) → AreDistinct all → IsNameNumber all n name
@@ -192,8 +192,7 @@ knows_passed all before tables k = grind (arith, common_steps, flat_map-append, 
 pub takes_sound_float : (all : List (List ℕ)) (before : List Said) (item : Said) (number : ℕ) (old mid new : Tables) → IsSound before item → Floating ≡ item.kind
     → (1 < length item.symbols → TypesName all old (meant.variable_of item) number mid) → Carries all mid (option_to_list item.label) number new
     → Takes all Floating item number old new
-takes_sound_float all before item number old mid new s e t c =
-    grind (arith, common_steps, float_two before item s (ap (is_kind Floating) (sym e))) steps 200000
+takes_sound_float all before item number old mid new s e t c = grind (arith, common_steps, float_two before item s (ap (is_kind Floating) (sym e))) steps 200000
 
 -- what only carries a label
 pub takes_label : (all : List (List ℕ)) (kind : ItemKind) (item : Said) (number : ℕ) (old new : Tables)

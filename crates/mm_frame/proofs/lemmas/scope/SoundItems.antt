@@ -1,7 +1,7 @@
 -- Sound lists keep their items, and labels keep their meaning.
-use Rattle.std.proofs.Common.{subst, ◌∙◌, arith, ◌≡◌, ℕ, zero, suc, Bool, true, false, cond, Some, List, [], ◌∷◌, ◌++◌, map, filter, take, drop, slice_get, refl, sym, ap, append_assoc, append-nil}
-use Rattle.std.proofs.{Common.{inl, inr, ◌⊎◌}, Math.Seq.{split_at as seam}, lemmas.{Option.{slice_get_within, get_or_from_slice_get}, Grind.{common_steps}}}
-use Rattle.std.{proofs.lemmas.Bool.{false≢true, or_left, or_right, false_from_ne_true}, specs.List.{list_any}}
+use Rattle.std.proofs.Common.{subst, ◌∙◌, arith, ◌≡◌, ℕ, zero, suc, Bool, true, false, cond, Some, List, [], ◌∷◌, ◌++◌, map, filter, take, drop, slice_get, refl, sym, ap, append-nil, inl, inr, ◌⊎◌}
+use Rattle.std.proofs.{Math.Seq.{split_at as seam}, lemmas.{Option.{slice_get_within, get_or_from_slice_get}, Grind.{common_steps}, Bool.{false≢true, or_left, or_right, false_from_ne_true}}}
+use Rattle.std.specs.List.{list_any}
 use Rattle.mm_frame.proofs.lemmas.{scope.Facts.{sound_front, not_constant, first_constant, known, float_variable, float_two}, lists.Members.{In, in_flat, in_get, has_in, in_has}}
 use Rattle.mm_frame.{proofs.lemmas.frames.Frames.{constants_later, variables_later}, specs.Language.{Scope.{stays, constants, labels, active_variables}, Sound.{is_label, IsSound, AreSound}}}
 use Rattle.mm_frame.specs.{Language.Framing.{symbol, expression, meaning, resolve_from, resolve}, declared.FrameNumber.TheVariants.{F06}}
@@ -66,9 +66,7 @@ no_label items label h x i = has_not (labels_of x) label (λ k. false≢true (sy
 resolve_skip : (whole before front rest : List Said) (label : List ℕ) → ((x : Said) → In x front → has (labels_of x) label ≡ false) → resolve_from whole before (front ++ rest) label ≡ resolve_from whole (before ++ front) rest label
 resolve_skip whole before [] rest label h = ap (λ w. resolve_from whole w rest label) (sym (append-nil before))
 resolve_skip whole before (x ∷ front) rest label h =
-    ap (λ b. cond b (meaning whole before x (front ++ rest)) (resolve_from whole (before ++ x ∷ []) (front ++ rest) label)) (h x (inl refl))
-    ∙ resolve_skip whole (before ++ x ∷ []) front rest label (λ y k. h y (inr k))
-    ∙ ap (λ w. resolve_from whole w rest label) (append_assoc before (x ∷ []) front)
+    grind (arith, common_steps, resolve_skip whole (before ++ x ∷ []) front rest label (λ y k. h y (inr k))) steps 200000
 
 pub no_item_unknown : (items : List Said) (label : List ℕ) → ((item : Said) → In item items → has (labels_of item) label ≡ false) → resolve items label ≡ Unknown
 no_item_unknown items label h = ap (λ w. resolve_from items [] w label) (sym (append-nil items)) ∙ resolve_skip items [] items [] label h

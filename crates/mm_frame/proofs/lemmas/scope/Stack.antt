@@ -49,12 +49,7 @@ counts : (items : List Said) (k : ℕ) → count_by is_end (take k items) ≤ cl
 counts [] zero = omega arith
 counts [] (suc k) = omega arith
 counts (x ∷ xs) zero = omega arith
-counts (x ∷ xs) (suc k) =
-    let m = mark_of x.kind in
-    let a = count_by is_end (take k xs) in
-    let b = count_by is_start (take k xs) in
-    shift _ (cond (closes m) 1 0 + a) _ (cond (opens m) 1 0 + b) (closed (x ∷ xs)) (ends_cons x (take k xs)) (starts_cons x (take k xs))
-    (subst (λ n. cond (closes m) 1 0 + a ≤ n + (cond (opens m) 1 0 + b)) (sym (counted_mark x.kind (closed xs))) (counts_at m (closed xs) a b (counts xs k)))
+counts (x ∷ xs) (suc k) = grind (arith, common_steps, counts xs k, counted_mark, counts_at, ends_cons, shift, starts_cons) steps 200000
 
 closed_least : (m : Mark) (n d : ℕ) (a b : ℕ → ℕ) → a 0 ≡ 0 → b 0 ≡ 0 → ((e : ℕ) → ((k : ℕ) → a k ≤ e + b k) → n ≤ e) → ((k : ℕ) → cond (closes m) 1 0 + a k ≤ d + (cond (opens m) 1 0 + b k)) → closed_at m n ≤ d
 closed_least Opens zero d a b za zb r h = omega arith

@@ -1,17 +1,12 @@
-use Rattle.std.proofs.lemmas.{Grind.{common_steps}, Option.{none-some, same_Some}, List.{length-map, length_push, map-append}}
-use Rattle.std.proofs.Common.{◌≡◌, ◌<◌, ◌+◌, ◌∷◌, [], ℕ, Option, Some, length, map, sym, ◌∙◌, ap, subst, subst₂, arith}
+use Rattle.std.proofs.{Common.{rules, ◌≡◌, ◌<◌, ◌+◌, ◌∷◌, [], ℕ, Option, Some, length, map, sym, ◌∙◌, ap, subst₂, arith}, lemmas.{Grind.{common_steps}, Option.{none-some, same_Some}}}
+use Rattle.std.proofs.lemmas.List.{length-map, length_push, map-append}
 use Rattle.mm_proof.specs.mm_frame.Language.Base.{BaseView}
-use Rattle.mm_keep.{specs.Code.{KeptPlan.{number_planned}, Planned.{ArePlanned, IsPlanned}}, proofs.PlanLemmas.{each_more}}
+use Rattle.mm_keep.{specs.Code.{KeptPlan.{number_planned}, Planned.{IsPlanned}}, proofs.PlanLemmas.{each_more}}
 use Rattle.mm_keep.proofs.planning.planned.Goals as goal
 
 -- what is kept is of an item of the old base
 planned_within : (base copy : BaseView) (j i : ℕ) (from : Option ℕ) → from ≡ Some i → IsPlanned base copy j from → i < length base
 planned_within base copy j i from e kept = grind (arith, common_steps, same_Some, none-some) steps 200000
-
-pub old_with_same_view-from-requires-clause-item : goal.old_with_same_view-from-requires-clause-item
-old_with_same_view-from-requires-clause-item c =
-    let has = c.requires in
-    (has.0, has.1, has.2, omega (arith, c.count-count.ensures.count has.1 (c.args.names.now, has.2.new_is.base)))
 
 pub loop-j-preserved : goal.loop-j-preserved
 loop-j-preserved c =
@@ -28,9 +23,4 @@ loop-j-preserved c =
     }
 
 pub returns : goal.returns
-returns c base copy both =
-    let made = c.of.ensures in
-    subst (ArePlanned base copy) (sym made) (record {
-      count = let n = c.count-count.ensures.count copy (c.args.names.now, both.new_is.base) in let m = length-map c.loop-j.entries.items number_planned in omega (arith, n, m, c.loop-j.invariant.count);
-      each = c.loop-j.invariant.each base copy both;
-    })
+returns c base copy both = search (rules, length-map c.loop-j.entries.items number_planned)

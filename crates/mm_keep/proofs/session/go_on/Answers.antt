@@ -1,4 +1,3 @@
-use Rattle.std.proofs.Common.{rules}
 use Rattle.mm_keep.proofs.ChangeLemmas.{can_take, old_in}
 use Rattle.mm_keep.proofs.session.go_on.Goals as goal
 
@@ -26,6 +25,3 @@ undo_all-requires c = (c.requires.0, c.requires.1.spendable)
 
 pub returns-in-Err-clause-undone : goal.returns-in-Err-clause-undone
 returns-in-Err-clause-undone c before were = c.undo_all.ensures before were.spendable
-
-pub returns-in-Err-clause-kept : goal.returns-in-Err-clause-kept
-returns-in-Err-clause-kept c = search rules

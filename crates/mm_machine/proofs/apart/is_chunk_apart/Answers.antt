@@ -27,10 +27,7 @@ pub loop-left-smaller : goal.loop-left-smaller
 loop-left-smaller g c = let l = lowest c.loop-left.left c.loop-left-test.true (search rules) in (without c.loop-left.left (trailing_zeros w64 c.loop-left.left) l.0 l.1).0
 
 pub loop-left-preserved : goal.loop-left-preserved
-loop-left-preserved g c = record {
-  known = c.in_ok-is_apart_from.ensures.known;
-  bits = lowest_done _ c.loop-left.left _ c.loop-left-test.true (search rules) (rw c.if-not-branch.false at c.in_ok-is_apart_from.ensures.apart) c.loop-left.invariant.bits;
-}
+loop-left-preserved g c = search (rules, lowest_done)
 
 pub returns-clause-known : goal.returns-clause-known
 returns-clause-known g c = c.loop-left.invariant.known

@@ -1,4 +1,4 @@
-use Rattle.std.proofs.{Common.{ℕ, get_or, arith}, lemmas.Option.{slice_get-get_or}}
+use Rattle.std.proofs.{Common.{rules, ℕ, get_or, arith}, lemmas.Option.{slice_get-get_or}}
 use Rattle.mm_machine.{specs.{declared.sets.Chunk.{Chunk}, Code.PairClause.{InChunk}}, proofs.lemmas.{machine.ApartLemmas.{each_more, each_all}, lists.Members.{contains_at}}}
 use Rattle.mm_machine.proofs.apart.is_chunk_shared.Goals as goal
 
@@ -6,11 +6,7 @@ pub loop-n-init : goal.loop-n-init
 loop-n-init c k w l at n i j = absurd (omega (arith, l))
 
 pub returns-then-meet : goal.returns-then-meet
-returns-then-meet c =
-    let set = c.args.set.now in
-    let w = get_or set c.loop-n.n (record { at = 0; bits = 0 }) in
-    let m = c.if-meet.ensures in
-    (m.0, m.1, (w, contains_at set c.loop-n.n w (slice_get-get_or set c.loop-n.n _ c.loop-n-test.true), m.2))
+returns-then-meet c = search (rules, contains_at, slice_get-get_or)
 
 pub loop-n-preserved : goal.loop-n-preserved
 loop-n-preserved c =

@@ -1,4 +1,4 @@
-use Rattle.std.proofs.{Common.{ℕ, get_or, arith}, lemmas.Option.{slice_get-get_or}}
+use Rattle.std.proofs.{lemmas.{Grind.{common_steps}, Option.{slice_get-get_or}}, Common.{ℕ, get_or, arith}}
 use Rattle.mm_machine.{specs.{declared.sets.Chunk.{Chunk}, Code.PairClause.{InChunk, HasNumber}}, proofs.lemmas.{machine.ApartLemmas.{each_more, each_all}, lists.Members.{contains_at}}}
 use Rattle.mm_machine.proofs.apart.share.Goals as goal
 
@@ -6,11 +6,7 @@ pub loop-n-init : goal.loop-n-init
 loop-n-init c k w l at n i j = absurd (omega (arith, l))
 
 pub returns-then-is_chunk_shared : goal.returns-then-is_chunk_shared
-returns-then-is_chunk_shared c =
-    let one = c.args.one.now in
-    let w = get_or one c.loop-n.n (record { at = 0; bits = 0 }) in
-    let m = c.if-is_chunk_shared.ensures in
-    (m.0, (w, contains_at one c.loop-n.n w (slice_get-get_or one c.loop-n.n _ c.loop-n-test.true), m.1), m.2)
+returns-then-is_chunk_shared c = grind (arith, common_steps, contains_at, slice_get-get_or) steps 200000
 
 pub loop-n-preserved : goal.loop-n-preserved
 loop-n-preserved c =

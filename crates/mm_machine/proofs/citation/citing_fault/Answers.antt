@@ -1,4 +1,4 @@
-use Rattle.std.proofs.{Common.{arith, sym, ◌∙◌, length, List, Option, Some, None}, lemmas.{Bool.{eqb-true}, List.{length-map}}}
+use Rattle.std.proofs.{lemmas.{Grind.{common_steps}, Bool.{eqb-true}, List.{length-map}}, Common.{arith, sym, ◌∙◌, length, List, Option, Some, None}}
 use Rattle.mm_machine.specs.{Language.{Frame.{Symbol, Frame}, Typing.{IsFrame}, CodeLists.{meant_pair, meant_pairs}, Faults.{AnyZip}}, declared.ProofNumber.{ProofNumber}}
 use Rattle.mm_machine.specs.Code.{Citation.{CitingSays, GivesEntries, OtherEssential, OtherTypecode}, PairClause.{PairsSay}, Filling.{entries_of, frame_taking}}
 use Rattle.mm_machine.proofs.lemmas.machine.CitingFaults.{says08, says09, says_pairs}
@@ -13,10 +13,7 @@ pairs_say active frame is es None n8 n9 says = (n8, λ given gives. (n9 given gi
 pairs_say active frame is es (Some number) n8 n9 says = λ stack l at. says_pairs active frame is es stack l at n8 n9 number says
 
 pub returns-in_default-clause-says : goal.returns-in_default-clause-says
-returns-in_default-clause-says g c stack l at =
-    let taken = c.args.taken.now in
-    says08 (meant_pairs g.S.Listed.Symbol.means c.args.active.now.pairs.now) (frame_taking g.S.Symbol.means g.S.Listed.Symbol.means taken) c.requires.taken.cited.frame
-    (entries_of g.S.Symbol.means taken) stack l at c.in_default.ensures.gives
+returns-in_default-clause-says g c stack l at = grind (arith, common_steps, says08) steps 200000
 
 pub returns-then-not-essentials_fit-clause-says : goal.returns-then-not-essentials_fit-clause-says
 returns-then-not-essentials_fit-clause-says g c stack l at =

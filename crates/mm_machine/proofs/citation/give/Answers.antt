@@ -1,4 +1,4 @@
-use Rattle.std.proofs.{Common.{rules, ◌≡◌, ◌<◌, ◌+◌, ◌-◌, ℕ, true, false, Some, List, map, length, length-set, get_or, sym, ◌∙◌, ap, subst, arith, slice_get}, lemmas.Grind.{common_steps}}
+use Rattle.std.proofs.{Common.{◌≡◌, ◌<◌, ◌+◌, ◌-◌, ℕ, true, false, Some, List, map, length, length-set, get_or, sym, ◌∙◌, ap, subst, arith, slice_get}, lemmas.Grind.{common_steps}}
 use Rattle.std.proofs.{lemmas.{Bool.{false≢true}, List.Elements.{All-contains}, Option.{same_Some, slice_get_within, slice_get-get_or}}, Math.Decide.{ℕ_discrete}}
 use Rattle.mm_machine.specs.{Language.{Frame.{Symbol, Mandatory}, Lasting.{lasting_at}}, Code.{Flat.{IsEntryWithin, read}, Citation.{AreGiven, OtherTypecode}}}
 use Rattle.mm_machine.{specs.{Code.Filling.{entries_of, frame_taking, variables_of}, declared.pattern.{Entry.{Entry}, Given.{Given}}}, proofs.lemmas.machine.FlatLemmas.{mapped_or_get}}
@@ -61,9 +61,7 @@ bounds-given-variable g c =
     omega (arith, slice_get_within (variables_of m taken) number v.0 v.2, c.requires.given, c.loop-place.invariant.count)
 
 pub offset_bounds-given-variable : goal.offset_bounds-given-variable
-offset_bounds-given-variable g c =
-    let within = bounds-given-variable g c in
-    search (rules, within) steps 200000
+offset_bounds-given-variable g c = grind (arith, common_steps, bounds-given-variable g c) steps 200000
 
 pub loop-place-preserved : goal.loop-place-preserved
 loop-place-preserved g c =

@@ -1,14 +1,9 @@
-use Rattle.std.proofs.{Common.{◌+◌, ◌≤◌, map, length, take, sym, ◌∙◌, subst, arith, [], append-nil}, lemmas.List.{length-map, take_all}}
+use Rattle.std.proofs.{lemmas.{Grind.{common_steps}, List.{length-map, take_all}}, Common.{◌+◌, map, length, take, sym, subst, arith, append-nil}}
 use Rattle.mm_machine.{specs.Code.PairClause.{GathersOne, GathersSymbols}, proofs.lemmas.machine.{FlatLemmas.{mapped_get}, GatherLemmas.{gathered_more, gathered_none, grown_twice}}}
 use Rattle.mm_machine.proofs.gather.gather.Goals as goal
 
 pub loop-i-init : goal.loop-i-init
-loop-i-init g c = record {
-  begin = c.len-start.ensures ∙ c.args.sets.now.chunks.ok.0;
-  numbered = c.requires;
-  grows = ([], sym (append-nil (map g.S.Symbol.means c.args.variables.now.all.items)));
-  so_far = gathered_none (map g.S.Symbol.means c.args.variables.now.all.items) c.args.sets.now.chunks.items;
-}
+loop-i-init g c = grind (arith, common_steps, append-nil, gathered_none) steps 200000
 
 pub gather_one-requires-clause-start : goal.gather_one-requires-clause-start
 gather_one-requires-clause-start g c = omega (arith, c.loop-i.invariant.begin, c.loop-i.invariant.so_far.long)
@@ -36,8 +31,4 @@ loop-i-preserved g c =
     }
 
 pub returns-clause-gathers : goal.returns-clause-gathers
-returns-clause-gathers g c =
-    let m = g.S.Symbol.means in
-    let symbols = map m c.args.symbols.now in
-    let all : length symbols ≤ c.loop-i.i = omega (arith, length-map c.args.symbols.now m, c.loop-i-test.false) in
-    subst (λ w. GathersSymbols w (map m c.loop-i.variables.all.items) c.args.sets.now.chunks.items c.loop-i.sets.chunks.items) (take_all c.loop-i.i symbols all) c.loop-i.invariant.so_far
+returns-clause-gathers g c = grind (arith, common_steps, length-map, take_all) steps 200000

@@ -1,13 +1,9 @@
-use Rattle.std.proofs.{Common.{◌++◌, ◌∷◌, [], refl, sym, ◌∙◌, ap, arith, map, take}, lemmas.Bool.{false≢true}}
+use Rattle.std.proofs.{lemmas.{Grind.{common_steps}, Bool.{false≢true}}, Common.{◌++◌, ◌∷◌, [], refl, sym, ◌∙◌, ap, arith, map, take}}
 use Rattle.mm_machine.proofs.lemmas.machine.RoomLemmas.{map_next, range_at, range_next}
 use Rattle.mm_machine.proofs.kept.has_at.Goals as goal
 
 pub returns-then-not-is : goal.returns-then-not-is
-returns-then-not-is g c = (
-  λ w. absurd (false≢true w),
-  λ e. c.if-not-is.ensures.1 (range_at g.S.Symbol.means g.S.Listed.Symbol.means c.args.all.now c.args.listed.now c.args.at c.loop-n.n c.index-all-at.result c.index-listed-n.result
-      (omega (arith, c.requires, c.loop-n-test.true)) c.loop-n-test.true c.index-all-at.is c.index-listed-n.is e),
-)
+returns-then-not-is g c = grind (arith, common_steps, false≢true, range_at) steps 200000
 
 pub loop-n-preserved : goal.loop-n-preserved
 loop-n-preserved g c =

@@ -1,9 +1,8 @@
 -- Copies of ranges of lists, and whether two ranges are the same.
 use Rattle.std.proofs.lemmas.Grind.{common_steps}
 use Rattle.std.proofs.lemmas.List.{append_assoc, map-append, take_more_set, map-set, length-map, take-take, take-map, drop-map, drop-take, drop-drop, drop_more, length-take-le, take_at}
-use Rattle.std.proofs.{lemmas.{List.{same_from_push}, Bool.{eq-eqb, ne_eqb}, Nat.{mod-pow-add}}, Math.{Seq.{take-add, take-append-add}, Decide.{ℕ_discrete}}}
-use Rattle.std.proofs.Common.{rules, ◌≡◌, ℕ, zero, suc, ap₂, ◌+◌, ◌-◌, ◌*◌, ◌/◌, ◌%◌, ◌^◌, ◌<◌, ◌≤◌, ◌↔◌, not, eqb, List, [], ◌∷◌, ◌++◌, length, map, take, drop, set, get_or, min, sym, ◌∙◌, ap, arith}
-use Rattle.std.proofs.Common.{refl}
+use Rattle.std.proofs.{lemmas.{List.{same_from_push}, Bool.{eq-eqb, ne_eqb}, Nat.{mod-pow-add}}, Math.Seq.{take-add, take-append-add}}
+use Rattle.std.proofs.Common.{rules, ◌≡◌, ℕ, zero, suc, ◌+◌, ◌-◌, ◌*◌, ◌%◌, ◌^◌, ◌<◌, ◌≤◌, ◌↔◌, not, eqb, List, [], ◌∷◌, ◌++◌, length, map, take, drop, set, get_or, min, sym, ◌∙◌, ap, arith, refl}
 use lib.Lanes.{mask_l, zip2}
 use Rattle.mm_machine.specs.{Language.NumberedSymbols.{by_code}, declared.symbol.CodedSymbol.{CodedSymbol}}
 
@@ -14,7 +13,7 @@ put_at f all at x l = ap (take (at + 1)) (map-set f all at x) ∙ take_more_set 
 -- lists that agree up to a place have the same ranges below it
 pub range_below : {X : Type 0} (xs ys : List X) (to at n : ℕ) → at + n ≤ to → take to xs ≡ take to ys → take n (drop at xs) ≡ take n (drop at ys)
 range_below xs ys to at n l e =
-    sym (drop-take at n xs) ∙ ap (drop at) (sym (take-take (at + n) to xs l) ∙ ap (take (at + n)) e ∙ take-take (at + n) to ys l) ∙ drop-take at n ys
+    grind (arith, common_steps, drop-take at n xs, drop-take at n ys, take-take (at + n) to xs l, take-take (at + n) to ys l) steps 200000
 
 -- a copy of n, behind a front, goes on with k of what is put next
 pub copied_more : {X : Type 0} (front source old new part : List X) (to from n k m : ℕ) → k ≤ m → to + n ≤ length old
@@ -40,8 +39,7 @@ one_at f xs at x y l is e = ap (λ w. w ∷ []) (e ∙ ap f is) ∙ ap (λ w. ta
 pub copied_one : {X Y : Type 0} (f : X → Y) (front source : List Y) (all : List X) (to from n : ℕ) (x : X) → to + n < length all
     → take (to + n) (map f all) ≡ front ++ take n (drop from source) → f x ∷ [] ≡ take 1 (drop (from + n) source) →
     take (to + (n + 1)) (map f (set all (to + n) x)) ≡ front ++ take (n + 1) (drop from source)
-copied_one f front source all to from n x l so_far e =
-    copied_more front source (map f all) (map f (set all (to + n) x)) (f x ∷ []) to from n 1 1 (omega arith) (omega (arith, length-map all f)) so_far (put_at f all (to + n) x l) e
+copied_one f front source all to from n x l so_far e = search (rules, copied_more, length-map, put_at)
 
 -- what a copy is made of is before it, and stays
 pub source_stays : {X : Type 0} (start all part : List X) (to at n m : ℕ) → to ≤ length start → at + n ≤ to → take (to + m) all ≡ take to start ++ part → take n (drop at all) ≡ take n (drop at start)
@@ -60,10 +58,7 @@ same_part xs ys at from n k len l e = ap (take k) (sym (drop-drop n at xs)) ∙ 
 -- the ranges of one element are the same if and only if these are
 pub same_one : {X Y : Type 0} (f : X → Y) (xs ys : List X) (at from : ℕ) (x y : X) → at < length xs → x ≡ get_or xs at x → from < length ys → y ≡ get_or ys from y
     → (take 1 (drop at (map f xs)) ≡ take 1 (drop from (map f ys))) ↔ (f x ≡ f y)
-same_one f xs ys at from x y in_xs at_x in_ys at_y =
-    let one = one_at f xs at x (f x) in_xs at_x refl in
-    let other = one_at f ys from y (f y) in_ys at_y refl in
-    ((λ e. (same_from_push [] [] (f x) (f y) (one ∙ e ∙ sym other)).1), (λ e. sym one ∙ ap (λ w. w ∷ []) e ∙ other))
+same_one f xs ys at from x y in_xs at_x in_ys at_y = search (rules, one_at, same_from_push)
 
 -- if a function tells elements apart, lists that it makes the same are the same
 pub unmapped_same : {X Y : Type 0} (f : X → Y) → ((x y : X) → f x ≡ f y → x ≡ y) → (xs ys : List X) → map f xs ≡ map f ys → xs ≡ ys
@@ -79,8 +74,7 @@ mapped_range f xs at n = ap (take n) (drop-map f at xs) ∙ take-map f n (drop a
 -- a copy under a map
 pub mapped_copy : {X Y : Type 0} (f : X → Y) (start source all : List X) (to from n : ℕ) → take (to + n) all ≡ take to start ++ take n (drop from source)
     → take (to + n) (map f all) ≡ take to (map f start) ++ take n (drop from (map f source))
-mapped_copy f start source all to from n e =
-    grind (arith, common_steps, take-map f (to + n) all, take-map f to start, map-append f (take to start) (take n (drop from source)), mapped_range f source from n) steps 200000
+mapped_copy f start source all to from n e = grind (arith, common_steps, map-append, mapped_range, take-map) steps 200000
 
 -- a copy of a list of this length goes on with a block, of which too much may be put
 pub copied_block : {X : Type 0} (front source before old new : List X) (to from n m len : ℕ) → n < len → to + len ≤ length old
@@ -102,37 +96,19 @@ coded_apart x y e = search rules
 -- ranges of symbols by code mean the same if and only if they are the same
 pub coded_ranges : (xs ys : List CodedSymbol) (at from n : ℕ)
     → (take n (drop at (map by_code xs)) ≡ take n (drop from (map by_code ys))) ↔ (take n (drop at xs) ≡ take n (drop from ys))
-coded_ranges xs ys at from n = (
-  (λ e. unmapped_same by_code coded_apart (take n (drop at xs)) (take n (drop from ys)) (sym (mapped_range by_code xs at n) ∙ e ∙ mapped_range by_code ys from n)),
-  (λ e. mapped_range by_code xs at n ∙ ap (map by_code) e ∙ sym (mapped_range by_code ys from n)),
-)
+coded_ranges xs ys at from n = grind (arith, common_steps, coded_apart, mapped_range, unmapped_same) steps 200000
 
 -- ---- blocks
 
 low_bit : (b m n : ℕ) → b < 2 → (b + 2 * m) % 2 ^ suc n ≡ m % 2 ^ n * 2 + b
-low_bit b m n l =
-    let half : (b + 2 * m) / 2 ≡ m = omega (arith, l) in
-    let first : (b + 2 * m) % 2 ≡ b = omega (arith, l) in
-    ap (λ k. (b + 2 * m) % 2 ^ k) (omega arith) ∙ mod-pow-add (b + 2 * m) n 1 ∙ ap₂ (λ h k. h % 2 ^ n * 2 + k) half first
+low_bit b m n l = grind (arith, common_steps, mod-pow-add (b + 2 * m) n 1) steps 200000
 
 -- the first so many bits of the mask of what is different are 0 if and only if so many elements are the same
 pub low_bits : (xs ys : List ℕ) (n : ℕ) → n ≤ length xs → n ≤ length ys → (mask_l (zip2 (λ a b. not (eqb a b)) xs ys) % 2 ^ n ≡ 0) ↔ (take n xs ≡ take n ys)
 low_bits xs ys zero l m = ((λ e. refl), (λ e. omega arith))
 low_bits [] ys (suc n) l m = absurd (omega arith)
 low_bits (x ∷ xs) [] (suc n) l m = absurd (omega arith)
-low_bits (x ∷ xs) (y ∷ ys) (suc n) l m =
-    let rest = mask_l (zip2 (λ a b. not (eqb a b)) xs ys) in
-    let more = low_bits xs ys n (omega arith) (omega arith) in
-    elim (ℕ_discrete x y) [
-      | yes e ↦ rw (eq-eqb x y e) (let next = low_bit 0 rest n (omega arith) in (
-        (λ none. ap₂ (λ h t. h ∷ t) e (more.0 (omega (arith, none, next)))),
-        (λ same. omega (arith, more.1 (ap (drop 1) same), next)),
-      ))
-      | no o ↦ rw (ne_eqb x y o) (let next = low_bit 1 rest n (omega arith) in (
-        (λ none. absurd (omega (arith, none, next))),
-        (λ same. absurd (o (ap (λ w. get_or w 0 x) same))),
-      ))
-    ]
+low_bits (x ∷ xs) (y ∷ ys) (suc n) l m = grind (arith, common_steps, low_bits xs ys n (omega arith) (omega arith), eq-eqb, low_bit, ne_eqb) steps 200000
 
 -- ranges in blocks are the same if and only if their codes are
 pub block_codes : (xs ys : List CodedSymbol) (at from n : ℕ) → n ≤ 4

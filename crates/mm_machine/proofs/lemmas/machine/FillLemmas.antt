@@ -1,7 +1,8 @@
 -- Lasting expressions that are filled by what their variables are given.
-use Rattle.std.proofs.Common.{◌≡◌, ◌↔◌, ℕ, ◌+◌, ◌-◌, ◌<◌, ◌≤◌, false, Some, List, [], ◌∷◌, ◌++◌, length, map, take, drop, get_or, refl, sym, ◌∙◌, ap, ap₂, subst, arith, append_assoc, length-append}
-use Rattle.std.proofs.{Common.{slice_get, Contains}, lemmas.Option.{slice_get_within, get_or_from_slice_get}}
+use Rattle.std.proofs.lemmas.{Grind.{common_steps}, Option.{slice_get_within, get_or_from_slice_get}}
 use Rattle.std.proofs.lemmas.List.{take-take, drop-take, drop-drop, length-take, length-take-le, length-drop, get_or-map, append_cancel_left, take_at, drop_at, take-append-drop, drop_more, drop_all}
+use Rattle.std.proofs.Common.{◌≡◌, ◌↔◌, ℕ, ◌+◌, ◌-◌, ◌<◌, ◌≤◌, false, Some, List, [], ◌∷◌, ◌++◌, length, map, take, drop, get_or, refl, sym, ◌∙◌, ap, ap₂, subst, arith, append_assoc, length-append}
+use Rattle.std.proofs.Common.{slice_get, Contains}
 use Rattle.mm_machine.specs.Language.{Frame.{Symbol, HasVariable}, Substitution.{substituted, replacement}, CodeLists.{range_of}, Lasting.{AreSlotsOf, pattern_slots, pattern_symbols}}
 use Rattle.mm_machine.specs.{declared.{slots.Slot.{Slot}, lasting.Pattern.{Pattern}, pattern.{Entry.{Entry}, Given.{Given}}}, Code.Flat.{read}}
 use Rattle.mm_machine.{specs.Code.Filling.{AreSlotsWithin, IsFillable, IsGivenWithin, filled, given_symbols, pattern_filled}, proofs.lemmas.machine.{CopyLemmas.{range_below}, FlatLemmas.{put_rest}}}
@@ -9,9 +10,7 @@ use Rattle.mm_machine.proofs.lemmas.{verdicts.Unique.{replacement-variable, repl
 
 -- what comes after a front of a range
 pub range_rest : {X : Type 0} (c from end : ℕ) (xs : List X) → from + c ≤ end → drop c (range_of from end xs) ≡ range_of (from + c) end xs
-range_rest c from end xs l =
-    let long : end - from ≡ c + (end - (from + c)) = omega arith in
-    ap (λ n. drop c (take n (drop from xs))) long ∙ drop-take c (end - (from + c)) (drop from xs) ∙ ap (take (end - (from + c))) (drop-drop c from xs)
+range_rest c from end xs l = grind (arith, common_steps, drop-drop c from xs, drop-take c (end - (from + c)) (drop from xs)) steps 200000
 
 -- constants stay
 pub constants_stay : (given : Symbol → List Symbol) (expression : List Symbol) → ((s : Symbol) → Contains expression s → s.variable ≡ false) → substituted given expression ≡ expression
@@ -180,9 +179,7 @@ module _ (old : List Symbol) (given : List Given) (whole : List Symbol) (top at 
 -- a range in two parts
 range_split : {X : Type 0} (c from end : ℕ) (xs : List X) → from + c ≤ end → range_of from end xs ≡ take c (drop from xs) ++ range_of (from + c) end xs
 range_split c from end xs l =
-    sym (take-append-drop c (range_of from end xs))
-    ∙ ap (λ w. w ++ drop c (range_of from end xs)) (take-take c (end - from) (drop from xs) (omega arith))
-    ∙ ap (λ w. take c (drop from xs) ++ w) (range_rest c from end xs l)
+    grind (arith, common_steps, range_rest c from end xs l, take-append-drop c (range_of from end xs), take-take c (end - from) (drop from xs) (omega arith)) steps 200000
 
 -- an entry fits so far: it goes on where the expression that is filled does
 abbrev pub Fitting : List Symbol → List Given → Entry → List Symbol → ℕ → ℕ → ℕ → List Slot → Type 0

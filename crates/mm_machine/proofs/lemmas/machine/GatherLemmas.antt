@@ -75,14 +75,7 @@ gathered_more symbols all more front before after n s at (inr a) f =
 
 -- none yet
 pub gathered_none : (all : List Symbol) (front : List Chunk) → GathersSymbols [] all front front
-gathered_none all front =
-    let none : drop (length front) front ≡ [] = drop_all (length front) front (omega arith) in
-    record {
-      kept = take_all (length front) front (omega arith);
-      long = omega arith;
-      numbers = rw none (λ n h. absurd (omega (arith, h.1.1)));
-      same = λ v. rw none (λ h. absurd (omega (arith, h.0.1)), λ i. absurd (omega (arith, i.1.1.1)));
-    }
+gathered_none all front = grind (arith, common_steps, drop_all (length front) front (omega arith), take_all (length front) front (omega arith)) steps 200000
 
 -- ---- the entries
 

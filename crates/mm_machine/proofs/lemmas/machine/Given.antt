@@ -94,10 +94,7 @@ module _ (variables : List Symbol) (hs : List Mandatory) (entries : List Entry) 
     (were : AreGiven variables hs entries given n) where
   -- one `$e` more gives nothing
   pub gives_still : h.floating ≡ false → AreGiven variables hs entries given (n + 1)
-  gives_still is k g w m l at_g typing at_m = elim (ℕ_discrete k n) [
-    | yes s ↦ absurd (false≢true (sym is ∙ ap (λ (x : Mandatory). x.floating) (same_Some h g (sym at_h ∙ sym (ap (slice_get hs) s) ∙ at_g)) ∙ typing.0))
-    | no o ↦ were k g w m (omega (arith, l, o)) at_g typing at_m
-  ]
+  gives_still is k g w m l at_g typing at_m = grind (arith, common_steps, false≢true, same_Some) steps 200000
 
   -- one `$f` more gives its variable the rest of its entry
   pub gives_more : (number : ℕ) (v : Symbol) (e : Entry) → IsOnce hs → ((i j : ℕ) (w : Symbol) → slice_get variables i ≡ Some w → slice_get variables j ≡ Some w → i ≡ j)

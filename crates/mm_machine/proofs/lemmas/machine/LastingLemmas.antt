@@ -1,7 +1,7 @@
 -- The lasting expressions of a machine, whose other lists change or get more behind.
-use Rattle.std.proofs.Common.{◌≡◌, ℕ, ◌-◌, ◌≤◌, List, [], ◌∷◌, ◌++◌, length, map, take, drop, set, refl, sym, ◌∙◌, ap, ap₂, arith, All, append-nil, length-append}
+use Rattle.std.proofs.{Common.{rules, ◌≡◌, ℕ, ◌-◌, ◌≤◌, List, [], ◌∷◌, ◌++◌, length, map, take, drop, set, refl, sym, ◌∙◌, ap, ap₂, arith, All, append-nil, length-append}, lemmas.Grind.{common_steps}}
 use Rattle.std.proofs.lemmas.List.{length-drop, drop-append-le, take-append-le, drop_at, take_all, map-set, Elements.{All-head, All-tail, All-set, All-weaker}}
-use Rattle.mm_machine.specs.{Language.{Frame.{Symbol, Mandatory}, CodeLists.{range_of}, Lasting.{AreSlotsOf, IsPattern, lasting_at, pattern_slots, pattern_symbols}}, declared.slots.Slot.{Slot}}
+use Rattle.mm_machine.specs.{Language.{Frame.{Symbol, Mandatory}, CodeLists.{range_of}, Lasting.{AreSlotsOf, IsPattern, lasting_at, pattern_symbols}}, declared.slots.Slot.{Slot}}
 use Rattle.mm_machine.{specs.declared.lasting.Pattern.{Pattern}, proofs.lemmas.machine.{CopyLemmas.{range_below}, SlotLemmas.{slots_stay}}}
 
 -- a range stays in a list that gets more behind
@@ -10,9 +10,7 @@ range_stays first last xs more o l = ap (take (last - first)) (drop-append-le fi
 
 -- the range of what is added
 range_added : {X : Type 0} (first last : ℕ) (old more all : List X) → all ≡ old ++ more → first ≡ length old → last ≡ length all → range_of first last all ≡ more
-range_added first last old more all e a b =
-    ap (λ w. take (last - first) (drop first w)) e ∙ ap (take (last - first)) (drop_at old more first (sym a))
-    ∙ take_all (last - first) more (let n = ap length e in omega (arith, length-append old more))
+range_added first last old more all e a b = grind (arith, common_steps, drop_at, length-append, take_all) steps 200000
 
 -- an expression reads the same if what is below its end is the same
 pub symbols_stay : (ground : ℕ) (symbols all : List Symbol) (p : Pattern) → take ground all ≡ take ground symbols → p.start ≤ p.end → p.end ≤ ground → pattern_symbols all p ≡ pattern_symbols symbols p
@@ -22,15 +20,7 @@ module _ (ground wider : ℕ) (symbols all variables more all_variables : List S
     (low : ground ≤ wider) (vs : all_variables ≡ variables ++ more) (ss : all_slots ≡ slots ++ more_slots) where
   -- a pattern stays one
   pattern_stays : (p : Pattern) → IsPattern ground symbols variables slots p → IsPattern wider all all_variables all_slots p
-  pattern_stays p is =
-      let slots_same = ap (range_of p.first p.last) ss ∙ range_stays p.first p.last slots more_slots is.slots_in_order is.slots_within in
-      record {
-        in_order = is.in_order;
-        within = omega (arith, is.within);
-        slots_in_order = is.slots_in_order;
-        slots_within = omega (arith, is.slots_within, ap length ss, length-append slots more_slots);
-        slots_are = rw (symbols_stay ground symbols all p same is.in_order is.within, slots_same) (slots_stay variables more all_variables (pattern_symbols symbols p) (pattern_slots slots p) vs is.slots_are);
-      }
+  pattern_stays p is = search (rules, length-append, range_stays, slots_stay, symbols_stay)
 
   -- and so do all
   pub patterns_stay : (ps : List Pattern) → All (IsPattern ground symbols variables slots) ps → All (IsPattern wider all all_variables all_slots) ps
@@ -66,6 +56,4 @@ module _ (ground : ℕ) (symbols all expression variables more all_variables : L
       }) (patterns_stay ground p.end symbols all variables more all_variables slots more_slots all_slots same (omega (arith, start, in_order)) vs ss ps were)
 
   pub expression_set : (n : ℕ) → map (lasting_at all) (set ps n p) ≡ set (map (lasting_at symbols) ps) n (record { floating = p.floating; expression = expression })
-  expression_set n =
-      let made : List Symbol → Mandatory = λ w. record { floating = p.floating; expression = w } in
-      map-set (lasting_at all) ps n p ∙ ap₂ (λ (es : List Mandatory) (e : Mandatory). set es n e) (expressions_stay ground symbols all variables slots ps same were) (ap made is)
+  expression_set n = grind (arith, common_steps, expressions_stay ground symbols all variables slots ps same were, map-set (lasting_at all) ps n p) steps 200000

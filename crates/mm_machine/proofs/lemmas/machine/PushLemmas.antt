@@ -1,7 +1,7 @@
 -- What a label does that pushes an expression.
-use Rattle.std.proofs.{Common.{◌≡◌, ℕ, true, ◌≤◌, List, [], ◌∷◌, ◌++◌, length, refl, sym, ap, subst, arith, append-nil, All, Contains}, lemmas.Grind.{common_steps}}
-use Rattle.mm_machine.specs.Language.{Frame.{Symbol, Frame, LabelMeaning, Hypothesis, Assertion, Inactive, Unknown, Setting}, Substitution.{substituted}, Derivation.{AreApart}}
-use Rattle.mm_machine.specs.Language.{Typing.{IsFrame, IsTyped, HasFrames}, Steps.{Cites, Moves}, NamedSteps.{Pushes}}
+use Rattle.std.proofs.{Common.{◌≡◌, ℕ, true, ◌≤◌, List, [], ◌∷◌, ◌++◌, length, refl, ap, subst, arith, append-nil, Contains}, lemmas.Grind.{common_steps}}
+use Rattle.mm_machine.specs.Language.{Frame.{Symbol, Frame, LabelMeaning, Hypothesis, Assertion, Inactive, Unknown, Setting}, Substitution.{substituted}, Typing.{IsFrame, IsTyped, HasFrames}}
+use Rattle.mm_machine.specs.Language.{Steps.{Cites, Moves}, NamedSteps.{Pushes}}
 
 in_nothing : {X : Type 0} (x : X) → Contains [] x → ⊥
 in_nothing x c = absurd (omega (arith, c.1))
@@ -25,21 +25,7 @@ no_pairs frame (p ∷ pairs) is_list is nothing =
 nothing_taken : (active : List (Symbol × Symbol)) (frame : Frame) (e : List Symbol) (stack : List (List Symbol)) → IsFrame frame → frame.hypotheses ≡ [] → frame.expression ≡ e → length e ≤ 1000000
     → Cites active frame stack (stack ++ e ∷ [])
 nothing_taken active frame e stack is nothing says short =
-    let given : Symbol → List Symbol = λ s. s ∷ [] in
-    record {
-      below = stack;
-      entries = [];
-      result = e;
-      given = given;
-      before = sym (append-nil stack);
-      takes = record {
-        entries_match = rw nothing refl;
-        result_matches = rw says (itself e);
-        apart = subst (λ pairs. All (λ pair. AreApart active (given pair.0) (given pair.1)) pairs) (sym (no_pairs frame frame.pairs refl is nothing)) (λ k d l. absurd (omega (arith, l)));
-        short = short;
-      };
-      after = refl;
-    }
+    grind (arith, common_steps, append-nil stack, itself e, no_pairs frame frame.pairs refl is nothing) steps 200000
 
 pub pushed_moves : (place : Setting) → HasFrames place → (label : List ℕ) (meaning : LabelMeaning) (e : List Symbol) (stack : List (List Symbol)) → place.resolve label ≡ meaning → Pushes meaning e
     → Moves place.active meaning stack (stack ++ e ∷ [])

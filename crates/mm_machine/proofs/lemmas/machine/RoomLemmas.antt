@@ -1,5 +1,5 @@
 -- Symbols that are put into a list, behind its front.
-use Rattle.std.proofs.Common.{◌≡◌, ℕ, ◌+◌, ◌-◌, ◌<◌, ◌≤◌, List, [], ◌∷◌, ◌++◌, length, map, take, drop, get_or, slice_set, sym, ◌∙◌, ap, arith, append_assoc}
+use Rattle.std.proofs.Common.{rules, ◌≡◌, ℕ, ◌+◌, ◌-◌, ◌<◌, ◌≤◌, List, [], ◌∷◌, ◌++◌, length, map, take, drop, get_or, slice_set, sym, ◌∙◌, ap, arith, append_assoc}
 use Rattle.std.proofs.lemmas.Grind.{common_steps, drop_more_same}
 use Rattle.std.proofs.lemmas.List.{map-set, take_more_set, length-map, get_or-drop, get_or-map, get_or-take, take_more, length-drop, drop-map, drop-set-lt, get_or_default, length-take, length-take-le}
 use Rattle.std.proofs.lemmas.List.{take-take, take_at, drop-take, drop_at, map-append, take-append-le}
@@ -20,10 +20,7 @@ put_next f start put more all at n x l m e = grind (arith, common_steps, put_one
 -- one more of a range
 pub range_next : {X Y : Type 0} (f : X → Y) (xs : List X) (from n : ℕ) (x d : X) → from + n < length xs → f x ≡ f (get_or xs (from + n) d)
     → take (n + 1) (drop from (map f xs)) ≡ take n (drop from (map f xs)) ++ f x ∷ []
-range_next f xs from n x d l e =
-    let y = get_or (drop from xs) n d in
-    let next = map_next f (drop from xs) n y (omega (arith, length-drop from xs)) (get_or_default (drop from xs) n d y (omega (arith, length-drop from xs))) in
-    grind (arith, common_steps, next, get_or-drop from xs n d, drop-map f from xs) steps 200000
+range_next f xs from n x d l e = search (rules, drop-map, get_or-drop, get_or_default, length-drop, map_next)
 
 -- lists that have the same end have the same members there
 pub same_end : {X : Type 0} (xs ys : List X) (k m : ℕ) (d : X) → k ≤ m → drop k xs ≡ drop k ys → get_or xs m d ≡ get_or ys m d
@@ -58,5 +55,4 @@ part_long xs at n part l e = let k = ap length e in omega (arith, length-take n 
 pub range_at : {X Y L : Type 0} (f : X → Y) (h : L → Y) (all : List X) (listed : List L) (at n : ℕ) (x : X) (s : L) → at + n < length all → n < length listed → x ≡ get_or all (at + n) x → s ≡ get_or listed n s
     → take (length listed) (drop at (map f all)) ≡ map h listed → f x ≡ h s
 range_at f h all listed at n x s l k x_is s_is e =
-    ap f x_is ∙ sym (get_or-map f all (at + n) x (f x) l) ∙ sym (get_or-drop at (map f all) n (f x)) ∙ sym (get_or-take (length listed) (drop at (map f all)) n (f x) k)
-    ∙ ap (λ w. get_or w n (f x)) e ∙ get_or-map h listed n s (f x) k ∙ ap h (sym s_is)
+    grind (arith, common_steps, get_or-drop at (map f all) n (f x), get_or-map f all (at + n) x (f x) l, get_or-map h listed n s (f x) k, get_or-take (length listed) (drop at (map f all)) n (f x) k) steps 200000

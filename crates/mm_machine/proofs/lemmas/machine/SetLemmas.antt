@@ -1,20 +1,17 @@
 -- Sets of numbers, as chunks of 64 bits.
-use Rattle.std.proofs.Common.{◌≡◌, ◌≢◌, ℕ, zero, suc, ◌+◌, ◌-◌, ◌*◌, ◌/◌, ◌%◌, ◌^◌, ◌<◌, ◌≤◌, ◌⊎◌, ◌↔◌, Some, List, [], ◌∷◌, ◌++◌, length, take, drop, get_or, refl, sym, ◌∙◌, ap, subst, arith, inl}
-use Rattle.std.proofs.{Common.{inr, w64, Contains, slice_get, slice_set, length-set, get_or-set_same, get_or-set_other}, Math.Decide.{ℕ_discrete}}
+use Rattle.std.proofs.Common.{rules, ◌≡◌, ◌≢◌, ℕ, zero, suc, ◌+◌, ◌-◌, ◌*◌, ◌/◌, ◌%◌, ◌^◌, ◌<◌, ◌≤◌, ◌⊎◌, ◌↔◌, Some, List, [], ◌∷◌, ◌++◌, length, take, drop, get_or, refl, sym, ◌∙◌, ap, subst, arith}
+use Rattle.std.proofs.{Common.{inl, inr, w64, Contains, slice_get, slice_set, length-set, get_or-set_same, get_or-set_other}, lemmas.Grind.{common_steps}}
 use Rattle.std.proofs.lemmas.{Option.{same_Some, slice_get_within, slice_get-get_or, get_or_from_slice_get}, Nat.{and_le_l}}
 use Rattle.std.proofs.lemmas.Nat.Bits.{bit_at_set_same, bit_at_set_other, bit_at_or, bit_at_and, bit_at_not, bit_at-lt, bit_at-zero, bit_at-trailing_zeros, bit_at_clear_same, bit_at_clear_other}
-use Rattle.std.{proofs.lemmas.List.{take-set-le, drop-set-add, drop-append-le, take-append-le, length-drop, length-append, get_or-drop}, specs.Int.{bit_at, bit_not, trailing_zeros}}
-use Rattle.std.specs.{Int.RustNames.{bit_or}, Prelude.{bit_and}}
+use Rattle.std.proofs.{lemmas.List.{take-set-le, drop-set-add, drop-append-le, take-append-le, length-drop, length-append, get_or-drop}, Math.Decide.{ℕ_discrete}}
+use Rattle.std.specs.{Int.{bit_at, bit_not, trailing_zeros, RustNames.{bit_or}}, Prelude.{bit_and}}
 use Rattle.mm_machine.specs.{Language.Frame.{Symbol}, declared.{sets.Chunk.{Chunk}, apart.{KnownApart.{KnownApart}, KnownChunk.{KnownChunk}}}}
 use Rattle.mm_machine.{specs.Code.PairClause.{ApartAt, ApartFrom, InChunk, AddsNumber, KnowsApart}, proofs.lemmas.lists.Members.{contains_at, contains_get, pushed}}
 
 -- ---- a list with another element at a place
 
 pub changed_has : {X : Type 0} (xs : List X) (k : ℕ) (y x : X) → k < length xs → Contains (slice_set xs k y) x → (x ≡ y) ⊎ Contains xs x
-changed_has xs k y x l c = elim (ℕ_discrete c.0 k) [
-  | yes e ↦ inl (sym c.2 ∙ ap (λ j. get_or (slice_set xs k y) j x) e ∙ get_or-set_same xs k y x l)
-  | no n ↦ inr (c.0, omega (arith, c.1, length-set xs k y), sym (get_or-set_other xs k c.0 y x n) ∙ c.2)
-]
+changed_has xs k y x l c = grind (arith, common_steps, get_or-set_other, get_or-set_same, length-set) steps 200000
 
 pub changed_here : {X : Type 0} (xs : List X) (k : ℕ) (y : X) → k < length xs → Contains (slice_set xs k y) y
 changed_here xs k y l = (k, omega (arith, length-set xs k y), get_or-set_same xs k y y l)
@@ -41,10 +38,7 @@ pub one_other : (k i : ℕ) → k < 64 → i ≢ k → bit_at (1 * 2 ^ k % 2 ^ 6
 one_other k i l n = omega (arith, bit_at_or 0 (1 * 2 ^ k % 2 ^ 64) i, bit_at_set_other w64 0 k l i n, bit_at-zero i)
 
 pub or_cases : (a b i : ℕ) → bit_at (bit_or a b) i ≡ 1 → (bit_at a i ≡ 1) ⊎ (bit_at b i ≡ 1)
-or_cases a b i e = elim (ℕ_discrete (bit_at a i) 1) [
-  | yes s ↦ inl s
-  | no n ↦ inr (omega (arith, n, e, bit_at_or a b i, bit_at-lt a i, bit_at-lt b i))
-]
+or_cases a b i e = grind (arith, common_steps, bit_at-lt a i, bit_at-lt b i, bit_at_or a b i) steps 200000
 
 pub or_left : (a b i : ℕ) → bit_at a i ≡ 1 → bit_at (bit_or a b) i ≡ 1
 or_left a b i e = omega (arith, bit_at_or a b i, e, bit_at-lt b i)
@@ -156,10 +150,7 @@ all_done all left P none b k l e = elim (b.done k l e) [ inl f ↦ absurd (omega
 
 -- the bits of one chunk that another has not
 pub not_known : (a b k : ℕ) → b < 2 ^ 64 → k < 64 → bit_at a k ≡ 1 → (bit_at (bit_and a (bit_not w64 b)) k ≡ 1) ⊎ (bit_at b k ≡ 1)
-not_known a b k m l e = elim (ℕ_discrete (bit_at b k) 1) [
-  | yes s ↦ inr s
-  | no n ↦ inl (omega (arith, bit_at_and a (bit_not w64 b) k, bit_at_not w64 b k m l, bit_at-lt b k, e, n))
-]
+not_known a b k m l e = grind (arith, common_steps, bit_at-lt b k, bit_at_and a (bit_not w64 b) k, bit_at_not w64 b k m l) steps 200000
 
 pub and_first : (a b k : ℕ) → bit_at (bit_and a b) k ≡ 1 → bit_at a k ≡ 1
 and_first a b k e = omega (arith, bit_at_and a b k, bit_at-lt a k, bit_at-lt b k, e)
@@ -234,10 +225,7 @@ asked_in chunk bits left P some small b = left_in chunk (bit_and chunk.bits (bit
 pub asked_all : (active : List (Symbol × Symbol)) (all : List Symbol) (variable : ℕ) (chunk : Chunk) (bits left : ℕ) → bits < 2 ^ 64 → left ≡ 0
     → ApartFrom active all variable (record { at = chunk.at; bits = bits })
     → BitsDone (bit_and chunk.bits (bit_not w64 bits)) left (λ k. ApartAt active all variable (64 * chunk.at + k)) → ApartFrom active all variable chunk
-asked_all active all variable chunk bits left small none known done n i = elim (not_known chunk.bits bits i.0 small i.1 i.2) [
-  | inl b ↦ subst (ApartAt active all variable) (sym i.3) (all_done (bit_and chunk.bits (bit_not w64 bits)) left (λ k. ApartAt active all variable (64 * chunk.at + k)) none done i.0 i.1 b)
-  | inr b ↦ known n (i.0, i.1, b, i.3)
-]
+asked_all active all variable chunk bits left small none known done n i = search (rules, all_done, done, not_known)
 
 pub apart_both : (active : List (Symbol × Symbol)) (all : List Symbol) (variable : ℕ) (chunk : Chunk) (bits : ℕ)
     → ApartFrom active all variable chunk → ApartFrom active all variable (record { at = chunk.at; bits = bits }) → ApartFrom active all variable (record { at = chunk.at; bits = bit_or chunk.bits bits })

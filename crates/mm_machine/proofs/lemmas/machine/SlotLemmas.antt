@@ -1,8 +1,8 @@
 -- The slots of an expression, from symbol to symbol.
-use Rattle.std.proofs.lemmas.List.{length-drop, length-take-le, take_all, drop-drop, append_assoc, append-nil, get_or-drop}
+use Rattle.std.proofs.lemmas.{Grind.{common_steps}, List.{length-drop, length-take-le, take_all, drop-drop, append_assoc, append-nil, get_or-drop}}
 use Rattle.std.proofs.lemmas.{Option.{same_Some, slice_get_within, get_or_from_slice_get, slice_get-get_or}, Bool.{false≢true}}
-use Rattle.std.proofs.Common.{◌≡◌, ℕ, zero, suc, ◌+◌, ◌-◌, ◌≤◌, true, false, Some, List, [], ◌∷◌, ◌++◌, length, take, drop, get_or, refl, sym, ◌∙◌, ap, subst, arith, inl, inr, slice_get, Contains}
-use Rattle.mm_machine.specs.Language.{Frame.{Symbol, HasVariable}, Typing.{IsTyping}, CodeLists.{range_of}, Lasting.{AreSlotsOf, IsPattern, pattern_slots, pattern_symbols}}
+use Rattle.std.proofs.Common.{◌≡◌, ℕ, ◌+◌, ◌-◌, ◌≤◌, true, false, Some, List, [], ◌∷◌, ◌++◌, length, take, drop, get_or, refl, sym, ◌∙◌, ap, subst, arith, inl, inr, slice_get, Contains}
+use Rattle.mm_machine.specs.Language.{Frame.{Symbol, HasVariable}, Typing.{IsTyping}, CodeLists.{range_of}, Lasting.{AreSlotsOf, IsPattern, pattern_symbols}}
 use Rattle.mm_machine.specs.{Code.Filling.{AreSlotsWithin, IsFillable, IsGivenWithin}, declared.{slots.Slot.{Slot}, lasting.Pattern.{Pattern}, pattern.Given.{Given}}}
 use Rattle.mm_machine.proofs.lemmas.{machine.{ApartLemmas.{front_at}, FlatLemmas.{range_at}}, lists.Members.{pushed, take_next, contains_at, contains_behind}}
 
@@ -106,31 +106,16 @@ slots_within given top variables expression (slot ∷ slots) gives are =
 pub pattern_fillable : (ground top : ℕ) (symbols variables : List Symbol) (slots : List Slot) (given : List Given) (p : Pattern) → IsPattern ground symbols variables slots p
     → ground ≤ top → ground ≤ length symbols → AreAllGiven given top variables (pattern_symbols symbols p) → IsFillable given top slots p
 pattern_fillable ground top symbols variables slots given p is in_top in_symbols gives =
-    let within = slots_within given top variables (pattern_symbols symbols p) (pattern_slots slots p) gives is.slots_are in
-    let size = length-take-le (p.end - p.start) (drop p.start symbols) (omega (arith, is.in_order, is.within, length-drop p.start symbols)) in
-    record {
-      in_order = is.in_order;
-      within = omega (arith, is.within);
-      slots_in_order = is.slots_in_order;
-      slots_within = is.slots_within;
-      slots = subst (λ n. AreSlotsWithin given top n (pattern_slots slots p)) size within;
-    }
+    grind (arith, common_steps, length-drop, length-take-le, slots_within) steps 200000
 
 -- the slot of a constant and a variable
 slot_behind : (variables : List Symbol) (c v : Symbol) (slots : List Slot) → c.variable ≡ false → v.variable ≡ true → AreSlotsOf variables (c ∷ v ∷ []) slots →
     (slot : Slot) × (slice_get slots 0 ≡ Some slot) × (slice_get variables slot.variable ≡ Some v)
 slot_behind variables c v [] constant variable are = absurd (false≢true (sym (are v (contains_at (c ∷ v ∷ []) 1 v refl)) ∙ variable))
-slot_behind variables c v (slot ∷ slots) constant variable are = (slot, refl, by slot.constants are.2)
-  where
-    by : (k : ℕ) → slice_get (c ∷ v ∷ []) k ≡ Some are.1 → slice_get variables slot.variable ≡ Some v
-    by zero at = absurd (false≢true (sym constant ∙ ap (λ (s : Symbol). s.variable) (same_Some c are.1 at) ∙ are.3))
-    by (suc zero) at = are.4 ∙ sym at
-    by (suc (suc k)) at = absurd (omega (arith, slice_get_within (c ∷ v ∷ []) (suc (suc k)) are.1 at))
+slot_behind variables c v (slot ∷ slots) constant variable are = grind (arith, common_steps, constant, false≢true, same_Some, slice_get_within) steps 200000
 
 -- the first slot of a `$f` is there, and of its variable
 pub typing_slot : (variables expression : List Symbol) (slots : List Slot) (first last : ℕ) → IsTyping expression →
     AreSlotsOf variables expression (range_of first last slots) →
     (slot : Slot) × (slice_get slots first ≡ Some slot) × ((v : Symbol) → slice_get expression 1 ≡ Some v → slice_get variables slot.variable ≡ Some v)
-typing_slot variables expression slots first last typing are =
-    let f = slot_behind variables typing.0 typing.1 (range_of first last slots) typing.3 typing.4 (subst (λ w. AreSlotsOf variables w (range_of first last slots)) typing.2 are) in
-    (f.0, range_at first last slots f.0 f.1, λ v at. f.2 ∙ ap (λ w. slice_get w 1) (sym typing.2) ∙ at)
+typing_slot variables expression slots first last typing are = grind (arith, common_steps, range_at, slot_behind) steps 200000

@@ -9,9 +9,7 @@ use Rattle.mm_machine.{specs.declared.pattern.Entry.{Entry}, proofs.lemmas.{mach
 pub read_all_kept : (before after : List Symbol) (es : List Entry) → All (λ e. e.end ≤ length before) es → take (length before) after ≡ before → read_all after es ≡ read_all before es
 read_all_kept before after [] all kept = refl
 read_all_kept before after (e ∷ es) all kept =
-    let first = range_kept before after e kept (All-head (λ (e : Entry). e.end ≤ length before) e es all) in
-    let rest = read_all_kept before after es (All-tail (λ (e : Entry). e.end ≤ length before) e es all) kept in
-    cc
+    grind (arith, common_steps, read_all_kept before after es (All-tail (λ (e : Entry). e.end ≤ length before) e es all) kept, range_kept before after e kept (All-head (λ (e : Entry). e.end ≤ length before) e es all)) steps 200000
 
 pub ends_of : (n m : ℕ) (es : List Entry) → n ≤ m → All (IsEntryWithin n) es → All (λ e. e.end ≤ m) es
 ends_of n m es l all k d i = let w = all k d i in omega arith
@@ -23,7 +21,7 @@ top_of f es n x l m is = grind (arith, common_steps, take_all (n + 1) es m, take
 pub top_saved : (symbols : List Symbol) (es saved new : List Entry) (n : ℕ) (x : Entry) → n < length es → length es ≤ n + 1 → x ≡ get_or es n x →
     new ≡ saved ++ x ∷ [] → Saves (expressions symbols es saved) (expressions symbols es new)
 top_saved symbols es saved new n x l m is e =
-    grind (arith, elements, map-append (read symbols) saved (x ∷ []), top_of (read symbols) es n x l m is) steps 200000
+    grind (arith, common_steps, map-append (read symbols) saved (x ∷ []), top_of (read symbols) es n x l m is) steps 200000
 
 -- the front reads the same after a cut at its end
 cut_kept : (symbols : List Symbol) (f : ℕ) (es : List Entry) → f ≤ length symbols → All (λ e. e.end ≤ f) es → read_all (take f symbols) es ≡ read_all symbols es
@@ -39,21 +37,17 @@ front_kept n before after es l e all =
 pub added_by : (before after result : List Symbol) (f : ℕ) (es next : List Entry) (new : Entry) → f ≤ length before → take f after ≡ take f before → All (λ e. e.end ≤ f) es
     → next ≡ es ++ new ∷ [] → read after new ≡ result → read_all after next ≡ read_all before es ++ result ∷ []
 added_by before after result f es next new l front all e is =
-    ap (read_all after) e ∙ map-append (read after) es (new ∷ []) ∙ ap (λ w. w ++ read after new ∷ []) (front_kept f before after es l front all)
-    ∙ ap (λ w. read_all before es ++ w ∷ []) is
+    grind (arith, common_steps, front_kept f before after es l front all, map-append (read after) es (new ∷ [])) steps 200000
 
 -- the entries before a place end within the front
 ends_before : (f below : ℕ) (es : List Entry) → ((i : ℕ) (e : Entry) → i < below → slice_get es i ≡ Some e → (e.end ≤ f) × (e.floor ≤ f)) → All (λ e. e.end ≤ f) (take below es)
-ends_before f below es stays k d i =
-    let n = length-take below es in
-    rw (get_or-take below es k d (omega arith)) ((stays k (get_or es k d) (omega arith) (slice_get-get_or es k d (omega arith))).0)
+ends_before f below es stays k d i = search (rules, get_or-take, length-take, slice_get-get_or)
 
 -- entries up to a place, and one more
 pub replaced_by : (before after result : List Symbol) (f below : ℕ) (es next : List Entry) (new : Entry) → f ≤ length before → take f after ≡ take f before
     → ((i : ℕ) (e : Entry) → i < below → slice_get es i ≡ Some e → (e.end ≤ f) × (e.floor ≤ f)) → next ≡ take below es ++ new ∷ [] → read after new ≡ result →
     read_all after next ≡ take below (read_all before es) ++ result ∷ []
-replaced_by before after result f below es next new l front stays e is =
-    added_by before after result f (take below es) next new l front (ends_before f below es stays) e is ∙ ap (λ w. w ++ result ∷ []) (sym (take-map (read before) below es))
+replaced_by before after result f below es next new l front stays e is = search (rules, added_by, ends_before, take-map)
 
 -- what is at a place of entries that were cut and got one more
 cut_or_last : (es : List Entry) (below k : ℕ) (new s : Entry) → below ≤ length es → slice_get (take below es ++ new ∷ []) k ≡ Some s → ((k < below) × (slice_get es k ≡ Some s)) ⊎ ((k ≡ below) × (new ≡ s))
@@ -63,8 +57,7 @@ cut_or_last es below k new s l at =
 pub whole_replaced : (n m kept f below : ℕ) (es saved next : List Entry) (new : Entry) → AreOrderedRanges n kept es saved → below ≤ length es → kept ≤ f
     → f ≤ m → ((i : ℕ) (e : Entry) → i < below → slice_get es i ≡ Some e → (e.end ≤ f) × (e.floor ≤ f)) → next ≡ take below es ++ new ∷ [] →
     IsEntryWithin m new → new.floor ≡ f → AreOrderedRanges m kept next saved
-whole_replaced n m kept f below es saved next new whole l low high front e in_range floor =
-    search (rules, contains_at, cut_or_last, slice_get-get_or) steps 200000
+whole_replaced n m kept f below es saved next new whole l low high front e in_range floor = search (rules, contains_at, cut_or_last, slice_get-get_or)
 
 -- the entries that an assertion takes
 pub entries_taken : (frame : Frame) (symbols : List Symbol) (es : List Entry) (below : ℕ) → below + length frame.hypotheses ≡ length es

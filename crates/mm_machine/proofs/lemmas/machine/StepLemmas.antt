@@ -84,10 +84,7 @@ fault_here place is steps k s state number known at other f low = search (rules,
 -- or not known
 pub unknown_here : (place : Setting) (steps : List Step) (k : ℕ) (state : State) → KnownUpTo steps k → slice_get steps k ≡ Some NotKnown → Follows place (take k steps) state →
     (k ≡ length (run_part steps)) × (run_part steps ≢ steps) × IsReached place steps
-unknown_here place steps k state known at f =
-    let ends = part_ends steps k known at in
-    let within = slice_get_within steps k NotKnown at in
-    (omega (arith, ap length ends, length-take-le k steps (omega (arith, within))), not_all_run steps k at, (state.stack, subst (λ (w : List Step). Reaches place w state.stack) (sym ends) (reached place (take k steps) state f)))
+unknown_here place steps k state known at f = grind (arith, common_steps, length-take-le, not_all_run, part_ends, reached, slice_get_within) steps 200000
 
 pub reached_all : (place : Setting) (steps : List Step) (k : ℕ) (state : State) → length steps ≤ k → Follows place (take k steps) state → Reaches place steps state.stack
 reached_all place steps k state l f = subst (λ (w : List Step). Reaches place w state.stack) (take_all k steps l) (reached place (take k steps) state f)
@@ -107,14 +104,7 @@ pub pushed_turns :
     (old new : Machine S) →
     Turns place step before (record before { stack = before.stack ++ e ∷ [] }) → HasState means old before →
     (state_of means new).stack ≡ (state_of means old).stack ++ e ∷ [] → (state_of means new).saved ≡ (state_of means old).saved → TurnsTo means new place step before
-pushed_turns means place step e before old new turns state stack saved = (
-  record before { stack = before.stack ++ e ∷ [] },
-  record {
-    stack = stack ∙ ap (λ w. w ++ e ∷ []) state.stack;
-    saved = saved ∙ state.saved;
-  },
-  turns,
-)
+pushed_turns means place step e before old new turns state stack saved = grind (arith, common_steps) steps 200000
 
 pub kept_turns :
     {S : Type 0} (means : S → Symbol) (place : Setting) (step : Step) (before : State) (old new : Machine S) →

@@ -1,7 +1,8 @@
 -- What the variables of an assertion are given by the entries that it takes.
-use Rattle.std.proofs.Common.{◌≡◌, ℕ, ◌+◌, ◌-◌, ◌<◌, ◌≤◌, true, false, Some, List, [], ◌∷◌, option_map, length, map, take, drop, get_or, refl, sym, ◌∙◌, ap, subst, arith, inl, inr, slice_get, All}
-use Rattle.std.proofs.{Common.{Contains}, lemmas.{Bool.{false≢true}, List.{length-map, length-take, drop-drop, take-append-drop, Elements.{All-contains, Contains-append_cases}}}}
+use Rattle.std.proofs.lemmas.{Grind.{common_steps}, Bool.{false≢true}, List.{length-map, length-take, drop-drop, take-append-drop, Elements.{All-contains, Contains-append_cases}}}
 use Rattle.std.proofs.lemmas.Option.{slice_get-map, slice_get-get_or, slice_get_within, same_Some}
+use Rattle.std.proofs.Common.{◌≡◌, ℕ, ◌+◌, ◌-◌, ◌<◌, ◌≤◌, true, false, Some, List, [], ◌∷◌, option_map, length, map, take, drop, get_or, refl, sym, ◌∙◌, ap, subst, arith, inl, inr, slice_get, All}
+use Rattle.std.proofs.Common.{Contains}
 use Rattle.mm_machine.specs.Language.{Frame.{Symbol, Mandatory, HasVariable}, Substitution.{substituted}, Typing.{IsTyped, IsTyping}, CodeLists.{range_of}}
 use Rattle.mm_machine.specs.{Language.Lasting.{AreSlotsOf, IsPattern, lasting_at, lasting_or, pattern_slots, pattern_symbols}, declared.{lasting.Pattern.{Pattern}, slots.Slot.{Slot}}}
 use Rattle.mm_machine.specs.{declared.{pattern.{Entry.{Entry}, Given.{Given}}, taken.Taken.{Taken}}, Code.{Flat.{IsEntryWithin, read}, Citation.{GivesEntries, IsTypingOf}, PairClause.{IsSlot}}}
@@ -11,8 +12,7 @@ use Rattle.mm_machine.proofs.lemmas.lists.Members.{Contains-here, contains_at, c
 
 -- after the first symbol of a range
 range_behind : (start end : ℕ) (xs : List Symbol) → range_of (start + 1) end xs ≡ drop 1 (range_of start end xs)
-range_behind start end xs =
-    ap (λ n. take n (drop (start + 1) xs)) (omega arith) ∙ ap (take (end - start - 1)) (sym (drop-drop 1 start xs)) ∙ sym (drop_one_take (end - start) (drop start xs))
+range_behind start end xs = grind (arith, common_steps, drop-drop 1 start xs, drop_one_take (end - start) (drop start xs)) steps 200000
 
 -- a variable of an expression has a number, if it has slots
 variable_number : (variables expression : List Symbol) (slots : List Slot) (v : Symbol) → AreSlotsOf variables expression slots → HasVariable expression v →
@@ -49,18 +49,12 @@ module _ {S L : Type 0} (means : S → Symbol) (listed : L → Symbol) (key : Sy
   pub taken_variable : (k : ℕ) (h : Mandatory) (number : ℕ) → slice_get (frame_taking means listed taken).hypotheses k ≡ Some h → h.floating ≡ true
       → ((v : Symbol) → slice_get h.expression 1 ≡ Some v → slice_get (variables_of means taken) number ≡ Some v)
       → (v : Symbol) × IsTypingOf h v × (slice_get (variables_of means taken) number ≡ Some v)
-  taken_variable k h number at floating named =
-      let t = taken_typing k h at floating in
-      let second = ap (λ (w : List Symbol). slice_get w 1) t.2 in
-      (t.1, (floating, second), named t.1 second)
+  taken_variable k h number at floating named = grind (arith, common_steps, taken_typing k h at floating) steps 200000
 
   -- an entry that has the typecode of a `$f` is not empty
   pub taken_some : (k : ℕ) (h : Mandatory) (symbols : List Symbol) (e : Entry) → slice_get (frame_taking means listed taken).hypotheses k ≡ Some h → h.floating ≡ true
       → slice_get h.expression 0 ≡ slice_get (read symbols e) 0 → e.start < e.end
-  taken_some k h symbols e at floating same =
-      let t = taken_typing k h at floating in
-      let some = slice_get_within (read symbols e) 0 t.0 (sym same ∙ ap (λ (w : List Symbol). slice_get w 0) t.2) in
-      omega (arith, some, length-take (e.end - e.start) (drop e.start symbols))
+  taken_some k h symbols e at floating same = grind (arith, common_steps, length-take, slice_get_within, taken_typing) steps 200000
 
   -- a mandatory hypothesis is that of a pattern
   taken_pattern : (k : ℕ) (h : Mandatory) → slice_get (frame_taking means listed taken).hypotheses k ≡ Some h → (p : Pattern) × (lasting_at (map means taken.symbols.now) p ≡ h)

@@ -1,6 +1,6 @@
 -- Numbers for names are a renaming.
-use Rattle.std.proofs.lemmas.{Grind.{common_steps}, Bool.{cases_Bool, false≢true}, List.Elements.{All-head, All-tail}, Option.{slice_get-get_or}, Slice.Eq.{bytes_eq-Decides}}
-use Rattle.std.proofs.Common.{◌≡◌, ◌≢◌, ℕ, zero, suc, ◌+◌, Bool, true, false, Some, List, [], ◌∷◌, map, refl, sym, ap, ap₂, ◌∙◌, arith, slice_get, bytes_eq, All}
+use Rattle.std.proofs.{Common.{rules, ◌≡◌, ◌≢◌, ℕ, zero, suc, ◌+◌, Bool, true, false, Some, List, [], ◌∷◌, map, refl, sym, ap, ap₂, ◌∙◌, arith, slice_get, bytes_eq, All}, lemmas.Grind.{common_steps}}
+use Rattle.std.proofs.lemmas.{Bool.{cases_Bool, false≢true}, List.Elements.{All-head, All-tail}, Option.{slice_get-get_or}, Slice.Eq.{bytes_eq-Decides}}
 use Rattle.mm_machine.specs.{declared.symbol.NumberedSymbol.{NumberedSymbol}, Language.Names.{AreDistinct, name_at}}
 use Rattle.mm_machine.specs.Language.NumberedSymbols.{symbol_of, symbols_of, pair_of, kept_pairs, IsNumbered, IsPairNumbered, by_number, all_by_number}
 use Rattle.mm_machine.specs.Language.{Renaming.{IsRenaming, renamed_pair, renamed_pairs}, CodeLists.{meant_pairs}, Numbering.{exchanged, named_from, numbered_from, naming, unnaming}}
@@ -65,7 +65,7 @@ module _ (names : List (List ℕ)) (distinct : AreDistinct names) where
   pub symbols_numbered : (symbols : List NumberedSymbol) → All (IsNumbered names) symbols → map (unnaming names) (symbols_of names symbols) ≡ all_by_number symbols
   symbols_numbered [] all = refl
   symbols_numbered (s ∷ symbols) all =
-      ap₂ ◌∷◌ (symbol_numbered s (All-head (IsNumbered names) s symbols all)) (symbols_numbered symbols (All-tail (IsNumbered names) s symbols all))
+      search (rules, symbols_numbered symbols (All-tail (IsNumbered names) s symbols all), symbol_numbered s (All-head (IsNumbered names) s symbols all))
 
   pub pairs_numbered : (pairs : List (NumberedSymbol × NumberedSymbol)) → All (IsPairNumbered names) pairs → renamed_pairs (unnaming names) (kept_pairs names pairs) ≡ meant_pairs by_number pairs
   pairs_numbered [] all = refl

@@ -112,13 +112,7 @@ not_all_run steps n at e = unknown_and_known steps n at (all_known steps e)
 -- all are run, or the one behind those that are run is unknown
 pub run_or_unknown : (steps : List Step) → (run_part steps ≡ steps) ⊎ (slice_get steps (length (run_part steps)) ≡ Some NotKnown)
 run_or_unknown [] = inl refl
-run_or_unknown (x ∷ steps) = elim (known_or_not x) [
-  | inl e ↦ inr (rw (part_none x steps e) (ap Some e))
-  | inr k ↦ elim (run_or_unknown steps) [
-    | inl all ↦ inl (part_one x steps k ∙ ap (λ (w : List Step). x ∷ w) all)
-    | inr at ↦ inr (rw (part_one x steps k) at)
-  ]
-]
+run_or_unknown (x ∷ steps) = grind (arith, common_steps, run_or_unknown steps, known_or_not, part_none, part_one) steps 200000
 
 -- steps that reach something are all run: an unknown one has no expansion
 none_stays : (place : Setting) (steps : List Step) → expand_from place None steps ≡ None

@@ -72,7 +72,7 @@ agree f g hs es v a b is t = grind (arith, elements, contains_get, substituted-t
 pub same_substituted : (f g : Symbol → List Symbol) (e : List Symbol) → ((v : Symbol) → HasVariable e v → f v ≡ g v) → substituted f e ≡ substituted g e
 same_substituted f g [] h = refl
 same_substituted f g (s ∷ e) h =
-    search (rules, same_substituted f g e (λ v w. h v (Contains-append_right (s ∷ []) e v w.0, w.1)), replacement-constant, replacement-variable) steps 200000
+    grind (arith, common_steps, same_substituted f g e (λ v w. h v (Contains-append_right (s ∷ []) e v w.0, w.1)), replacement-constant, replacement-variable) steps 200000
 
 -- what a citation takes, and what it leaves
 pub parts_are : (active : List (Symbol × Symbol)) (frame : Frame) (stack next : List (List Symbol)) → (m : Cites active frame stack next) →

@@ -1,4 +1,4 @@
-use Rattle.std.proofs.{Common.{◌≡◌, length, map, take, ap, arith, ◌∙◌}, lemmas.List.{length-map}}
+use Rattle.std.proofs.{lemmas.{Grind.{common_steps}, List.{length-map}}, Common.{◌≡◌, length, map, take, ap, arith, ◌∙◌}}
 use Rattle.mm_machine.{specs.Code.Filling.{pattern_filled}, proofs.{lemmas.machine.{FillLemmas.{filled_kept}, RoomLemmas.{part_long, written_back}}, machine.build_in_room.Goals.{In_ok-count}}}
 use Rattle.mm_machine.proofs.machine.build_in_room.Goals as goal
 
@@ -27,7 +27,4 @@ returns-in-Some-clause-built g c =
     rw is (c.if-count-gt-LONGEST_RESULT.false, omega (arith, built.0, c.in_ok-count.ensures.count), filled)
 
 pub returns-then-room-clause-built : goal.returns-then-room-clause-built
-returns-then-room-clause-built g c =
-    let built = rw c.in_default.is at c.in_ok-count.ensures.built in
-    let grown = same g (goal.at.returns-then-room-clause-built g c).In_ok-count in
-    omega (arith, built, ap length grown, ap length c.deref_mut.ensures.value, c.len.ensures, c.if-room.true, c.loop-count.symbols.ok)
+returns-then-room-clause-built g c = grind (arith, common_steps, same g (goal.at.returns-then-room-clause-built g c).In_ok-count) steps 200000

@@ -1,18 +1,11 @@
-use Rattle.std.proofs.{Common.{◌≡◌, ◌≤◌, ◌<◌, ◌+◌, ◌-◌, ℕ, [], map, take, drop, length, refl, sym, ◌∙◌, subst, arith, append-nil}, lemmas.{Bool.{false≢true}, List.{length-map}}}
-use Rattle.std.proofs.lemmas.Option.{slice_get_within}
+use Rattle.std.proofs.lemmas.{Grind.{common_steps}, Bool.{false≢true}, List.{length-map}, Option.{slice_get_within}}
+use Rattle.std.proofs.Common.{◌≡◌, ◌≤◌, ◌<◌, ◌+◌, ◌-◌, ℕ, map, take, drop, length, sym, ◌∙◌, subst, arith, append-nil}
 use Rattle.mm_machine.specs.Code.Filling.{AreSlotsWithin, pattern_filled}
 use Rattle.mm_machine.proofs.lemmas.machine.FillLemmas.{built_below, built_more, built_rest, built_slot, built_whole, given_at, slot_at, slot_known}
 use Rattle.mm_machine.proofs.pattern.build.Goals as goal
 
 pub loop-n-init : goal.loop-n-init
-loop-n-init g c = record {
-  count = refl;
-  low = omega arith;
-  within = c.requires.top;
-  from = c.requires.fillable.in_order;
-  slots = c.requires.fillable.slots;
-  built = ([], sym (append-nil (take c.args.top (map g.S.Symbol.means c.args.all.now))), refl);
-}
+loop-n-init g c = grind (arith, common_steps, append-nil (take c.args.top (map g.S.Symbol.means c.args.all.now))) steps 200000
 
 pub bounds-given-slots : goal.bounds-given-slots
 bounds-given-slots g c =

@@ -1,16 +1,8 @@
-use Rattle.std.proofs.{Common.{◌≡◌, ◌<◌, ◌+◌, ◌-◌, [], map, take, drop, length, refl, sym, ◌∙◌, ap, subst, arith}, lemmas.{Bool.{false≢true}, List.{length-drop, length-map, length-take}}}
-use Rattle.std.proofs.lemmas.Option.{slice_get_within}
+use Rattle.std.proofs.lemmas.{Bool.{false≢true}, List.{length-drop, length-map, length-take}, Option.{slice_get_within}}
+use Rattle.std.proofs.Common.{◌≡◌, ◌<◌, ◌+◌, ◌-◌, map, take, drop, length, sym, ◌∙◌, ap, subst, arith}
 use Rattle.mm_machine.specs.Code.Filling.{AreSlotsWithin, pattern_filled}
 use Rattle.mm_machine.proofs.lemmas.machine.FillLemmas.{fits_constants, fits_given, fits_rest, fits_room, fitting_more, given_at, slot_at, slot_known}
 use Rattle.mm_machine.proofs.pattern.fits.Goals as goal
-
-pub loop-n-init : goal.loop-n-init
-loop-n-init g c = record {
-  within = c.requires.entry.0;
-  from = c.requires.fillable.in_order;
-  slots = c.requires.fillable.slots;
-  fitting = ([], refl, refl);
-}
 
 pub bounds-given-slots : goal.bounds-given-slots
 bounds-given-slots g c =

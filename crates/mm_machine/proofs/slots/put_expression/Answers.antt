@@ -1,4 +1,4 @@
-use Rattle.std.proofs.{Common.{arith, sym, ◌≡◌, ◌∙◌, ◌∷◌, [], ◌+◌, ◌++◌, true, false, Some, ap, map, take, slice_get}, lemmas.List.{append_assoc, length-map}}
+use Rattle.std.proofs.{Common.{rules, arith, sym, ◌≡◌, ◌∙◌, ◌∷◌, [], ◌+◌, ◌++◌, true, false, Some, ap, map, take, slice_get}, lemmas.List.{append_assoc, length-map}}
 use Rattle.mm_machine.{specs.Language.Frame.{Symbol}, proofs.lemmas.machine.{FlatLemmas.{mapped_get}, RoomLemmas.{map_next, put_next}, SlotLemmas.{constant_more, slot_more, all_slots, pushed_behind}}}
 use Rattle.mm_machine.proofs.slots.put_expression.Goals.{then-is_variable+in_ok-variable+in_ok-slot_from+in_ok-push, else-is_variable}
 use Rattle.mm_machine.proofs.slots.put_expression.Goals as goal
@@ -52,10 +52,4 @@ loop-place-preserved g c =
     ]
 
 pub returns-clause-slots : goal.returns-clause-slots
-returns-clause-slots g c =
-    let i = c.loop-place.invariant.slots in (
-      i.0,
-      i.1,
-      all_slots (map g.S.Symbol.means c.loop-place.variables.all.items) (map g.S.Listed.Symbol.means c.args.expression.now) c.loop-place.place c.loop-place.constants i.0
-          (omega (arith, c.loop-place-test.false, length-map c.args.expression.now g.S.Listed.Symbol.means)) i.2,
-    )
+returns-clause-slots g c = search (rules, all_slots, length-map)

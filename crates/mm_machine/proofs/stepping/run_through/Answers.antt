@@ -1,5 +1,6 @@
-use Rattle.std.{specs.List.{AllZip}, proofs.{lemmas.{List.{length-map}, Option.{slice_get-get_or}}, Common.{◌≡◌, refl, map, ◌≤◌, ◌<◌, ℕ, List, All, Some, length, get_or, sym, ◌∙◌, ap, subst, arith}}}
-use Rattle.mm_machine.specs.Language.{Reaches.{Reaches}, Frame.{Mandatory, Setting, Symbol}, Expansion.{Step}, NamedSteps.{AreUses, IsUseWithin, MeansUse, meant, IsSavedWithin, actions_mean}}
+use Rattle.std.proofs.{lemmas.{Grind.{common_steps}, List.{length-map}, Option.{slice_get-get_or}}, Common.{◌≡◌, refl, map, ◌≤◌, ◌<◌, ℕ, List, All, Some, length, get_or, sym, ◌∙◌, ap, subst, arith}}
+use Rattle.std.specs.List.{AllZip}
+use Rattle.mm_machine.specs.Language.{Reaches.{Reaches}, Frame.{Setting, Symbol}, Expansion.{Step}, NamedSteps.{AreUses, IsUseWithin, MeansUse, meant, IsSavedWithin, actions_mean}}
 use Rattle.mm_machine.specs.{Language.{Lasting.{KeepsLasting, cited_frame, lasting_at}, CodeLists.{meant_pairs}, Machine.{nothing_yet}}, declared.{machine.Machine.{Machine}, named.Cited.{Cited}}}
 use Rattle.mm_machine.{specs.{declared.{step.ProofStep.{ProofStep}, stepping.Task.{Task}}, Code.{Flat.{read}, Tasks.{MeansTask}}}, proofs.lemmas.machine.Reaching.{at_start}}
 use Rattle.mm_machine.proofs.lemmas.machine.StepLemmas.{lasting, frames, nothing_known, follows_more, fault_here, unknown_here, reached_all, means_known, action_at, saves_next}
@@ -15,8 +16,7 @@ nowhere = record { action = actions.Label 0; spot = record { word = 0; letter = 
 task_kept :
     {S L : Type 0} (means : S → Symbol) (listed : L → Symbol) (old new : Machine S) (cited : List (Cited L)) (place : Setting) (task : Task) (step : Step) → KeepsLasting means old new →
     MeansTask (lasting means old) (frames means listed old cited) place task step → MeansTask (lasting means new) (frames means listed new cited) place task step
-task_kept means listed old new cited place task step keeps all =
-    subst (λ (w : List Mandatory). MeansTask (map (λ h. h.expression) w) (map (cited_frame listed w) cited) place task step) (sym keeps) all
+task_kept means listed old new cited place task step keeps all = grind (arith, common_steps) steps 200000
 
 -- there are as many of them
 as_many : {S : Type 0} (means : S → Symbol) (old new : Machine S) → KeepsLasting means old new → length old.lasting.patterns.items ≡ length new.lasting.patterns.items

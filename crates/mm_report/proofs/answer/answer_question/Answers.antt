@@ -1,12 +1,10 @@
+use Rattle.std.proofs.Common.{rules}
 use Rattle.mm_script.specs.{Language.Script.{Ask}, declared.command.Question.TheVariants.{Verdict, Axioms, Cites, Users}}
 use Rattle.mm_report.proofs.AskedLemmas.{answered_stop}
 use Rattle.mm_report.proofs.answer.answer_question.Goals as goal
 
 pub returns-in_err-write_verdict-in-Verdict : goal.returns-in_err-write_verdict-in-Verdict
-returns-in_err-write_verdict-in-Verdict g c =
-    let so = c.in_err-write_verdict-in-Verdict.ensures in
-    let session = c.args.session.now in
-    rw c.in-Verdict.is (answered_stop g.W.Write.contents (Ask Verdict c.args.label.now) session session c.args.to.now c.write_verdict.new.to c.from_residual.result so.answer c.from_residual.ensures.1 so.is so.writes.err)
+returns-in_err-write_verdict-in-Verdict g c = search (rules, answered_stop)
 
 pub returns-in-Axioms : goal.returns-in-Axioms
 returns-in-Axioms g c = rw c.in-Axioms.is (c.write_list.ensures Axioms c.args.label.now c.axioms.ensures.ok c.axioms.ensures.none.0)

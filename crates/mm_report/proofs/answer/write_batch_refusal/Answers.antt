@@ -1,4 +1,4 @@
-use Rattle.std.proofs.{Common.{[], arith}, lemmas.Grind.{elements}}
+use Rattle.std.proofs.{Common.{rules, [], arith}, lemmas.Grind.{elements}}
 use Rattle.mm_keep.specs.mm_text.declared.edit.Edit.{Edit}
 use Rattle.mm_script.specs.Language.Script.{Batch}
 use Rattle.mm_report.proofs.AskedLemmas.{answered_ok, answered_stop, batch_refused_is}
@@ -17,10 +17,7 @@ returns-in_err-write_batch_refused-in-Edit g c session listed same refused =
 
 pub returns-in_ok-write_batch_refused-in-Edit : goal.returns-in_ok-write_batch_refused-in-Edit
 unfolding none
-returns-in_ok-write_batch_refused-in-Edit g c session listed same refused =
-    let at = rw c.in-Edit.is at refused in
-    answered_ok g.W.Write.contents (Batch listed) session session c.args.to.now c.write_batch_refused.new.to _ _
-    (batch_refused_is session c.args.edits.now listed c.in-Edit.number c.in-Edit.error none same at) c.in_ok-write_batch_refused-in-Edit.ensures.ok
+returns-in_ok-write_batch_refused-in-Edit g c session listed same refused = search (rules, answered_ok, batch_refused_is, none)
 
 pub bounds-edits-number : goal.bounds-edits-number
 bounds-edits-number g c = grind (arith, elements)

@@ -1,11 +1,10 @@
+use Rattle.std.proofs.Common.{rules}
 use Rattle.mm_keep.specs.mm_frame.Language.Base.{base_of}
 use Rattle.mm_report.proofs.{LabelLemmas.{listed_parts}, StreamLemmas.{stops_front, stops_then, writes_then, writes_stop}}
 use Rattle.mm_report.proofs.answer.write_labels.Goals as goal
 
 pub returns-in_err-write_part : goal.returns-in_err-write_part
-returns-in_err-write_part g c items is =
-    rw (listed_parts c.args.word.now (base_of items) c.args.items.now)
-    (writes_stop c.from_residual.ensures.0 (stops_front _ c.in_err-write_part.ensures.err))
+returns-in_err-write_part g c items is = search (rules, listed_parts, stops_front, writes_stop)
 
 pub returns-in_err-write_number : goal.returns-in_err-write_number
 returns-in_err-write_number g c items is =

@@ -1,4 +1,4 @@
-use Rattle.std.proofs.Common.{◌≡◌, ◌<◌, ℕ, [], length, subst, arith, unwrap_or}
+use Rattle.std.proofs.{lemmas.Grind.{common_steps}, Common.{◌≡◌, ◌<◌, ℕ, [], length, subst, arith, unwrap_or}}
 use Rattle.mm_keep.specs.{mm_frame.Language.Base.{base_of, said_at}, Language.Findings.{counted, told}}
 use Rattle.mm_report.{specs.Code.Written.{AreWritten}, proofs.{FileLemmas.{told_in}, WrittenLemmas.{as_many, label_is, within_is, one_written, line_fails}}}
 use Rattle.mm_script.specs.Language.Stream.{written}
@@ -37,9 +37,7 @@ loop-i-preserved g c =
     c.loop-i.invariant
 
 pub write_line-requires : goal.write_line-requires
-write_line-requires g c =
-    let found = c.finding-finding.ensures.found in
-    rw c.files.ensures.files (told_in c.args.session.now.files found.0 c.loop-i.i (told c.finding-finding.result) found.2)
+write_line-requires g c = grind (arith, common_steps, told_in) steps 200000
 
 pub with-tally-requires : goal.with-tally-requires
 with-tally-requires g c =

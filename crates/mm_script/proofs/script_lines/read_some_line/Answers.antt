@@ -15,15 +15,3 @@ returns-in_err-line-clause-grows g c = grows_then _ _ _ _ _ _ c.loop-line.invari
 
 pub returns-then-line-clause-grows : goal.returns-then-line-clause-grows
 returns-then-line-clause-grows g c = grows_then _ _ _ _ _ _ c.loop-line.invariant.grows c.in_ok-line.ensures.grows
-
-pub loop-line-smaller : goal.loop-line-smaller
-loop-line-smaller g c = grind (arith, common_steps)
-
-pub overflow_add-start : goal.overflow_add-start
-overflow_add-start g c = grind (arith, common_steps)
-
-pub returns-in_err-line-clause-read : goal.returns-in_err-line-clause-read
-returns-in_err-line-clause-read g c = grind (arith, common_steps)
-
-pub returns-then-line-clause-start : goal.returns-then-line-clause-start
-returns-then-line-clause-start g c = grind (arith, common_steps)

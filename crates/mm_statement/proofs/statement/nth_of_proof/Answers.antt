@@ -1,4 +1,4 @@
-use Rattle.std.proofs.{lemmas.Grind.{common_steps}, Common.{◌≡◌, ◌+◌, refl, ◌∙◌, ap, drop, length, arith}}
+use Rattle.std.proofs.{lemmas.Grind.{common_steps}, Common.{◌≡◌, ◌+◌, ◌∙◌, ap, drop, length, arith}}
 use Rattle.mm_store.specs.mm_text.Language.Unit.{tokens_of}
 use Rattle.mm_statement.{specs.Language.Statement.{kind_of, symbols_from, symbols_in}, proofs.{PieceLemmas.{has_one, has_words, ends_within}, NthOfProof.{left_more, left_next, left_none, nth_said}}}
 use Rattle.mm_statement.proofs.statement.nth_of_proof.Goals as goal
@@ -11,9 +11,6 @@ new-requires c = (c.requires.words, has_words c.args.files.now c.args.item.now c
 
 pub behind_symbols-words-requires : goal.behind_symbols-words-requires
 behind_symbols-words-requires c = has_one c.args.files.now c.args.item.now c.piece-bytes.result.now c.requires c.piece-bytes.ensures.text c.new.result.words c.new.ensures.only
-
-pub loop-number-init : goal.loop-number-init
-loop-number-init c = refl
 
 pub loop-number-preserved : goal.loop-number-preserved
 loop-number-preserved c = left_more c.behind_symbols-words.result.words c.loop-number.words.words c.next_word.new.self.words c.loop-number._number c.next_word.result c.loop-number.invariant c.next_word.ensures.word

@@ -1,4 +1,4 @@
-use Rattle.std.proofs.{lemmas.Bool.{false≢true}, Common.{sym, ◌∙◌}}
+use Rattle.std.proofs.{Common.{arith}, lemmas.{Grind.{common_steps}, Bool.{false≢true}}}
 use Rattle.mm_statement.proofs.ByteLemmas.{search_tells, too_few}
 use Rattle.mm_statement.proofs.statement.occurs.Goals as goal
 
@@ -6,6 +6,4 @@ pub returns-then-text-bytes : goal.returns-then-text-bytes
 returns-then-text-bytes c = (λ yes. absurd (false≢true yes), λ occur. absurd (too_few c.args.text.now c.args.bytes.now c.if-text-bytes.true occur))
 
 pub returns : goal.returns
-returns c =
-    let told = search_tells c.args.text.now c.args.bytes.now c.find.result c.find.ensures in
-    (λ yes. told.0 (sym c.is_some.ensures ∙ yes), λ occur. c.is_some.ensures ∙ told.1 occur)
+returns c = grind (arith, common_steps, search_tells c.args.text.now c.args.bytes.now c.find.result c.find.ensures) steps 200000

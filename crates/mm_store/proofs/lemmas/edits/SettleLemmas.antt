@@ -18,8 +18,7 @@ places_there files n key file is = grind (arith, common_steps, none-some, same_S
 -- files of which no piece has this key, after what is under it has changed
 module _ (p p' : Pieces) (k : ℕ) (same : (q : ℕ) → q ≢ k → text_under p' q ≡ text_under p q) where
   views_same : (keys : List ℕ) → times k keys ≡ 0 → map (piece_view p') keys ≡ map (piece_view p) keys
-  views_same keys none = map_kept (piece_view p) (piece_view p') keys
-      (λ q some. ap (λ (text : List ℕ). record { key = record { at = q }; text = text }) (same q (λ e. omega (arith, some, none, ap (λ q. times q keys) e))))
+  views_same keys none = grind (arith, common_steps, keys, map_kept) steps 200000
 
   keyed_same : (files : List KeyedFile) → places k files ≡ 0 → map (file_view p') files ≡ map (file_view p) files
   keyed_same [] none = refl

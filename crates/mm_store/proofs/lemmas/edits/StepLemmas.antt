@@ -69,9 +69,7 @@ pub record Step (fs : List KeyedFile) (p : Pieces) (n : ℕ) (keys : List ℕ) (
 
 pub step_bytes : {fs : List KeyedFile} {p : Pieces} {n : ℕ} {keys : List ℕ} {now : Pieces} {less more fewer further : ℕ} → Step fs p n keys now less more fewer further
     → bytes_of (map (plain_file now) (with_keys fs n keys)) + less ≡ bytes_of (map (plain_file p) fs) + more
-step_bytes {fs} {p} {n} {keys} step =
-    let long : n < length (map (plain_file p) fs) = omega (arith, step.file, length-map fs (plain_file p)) in
-    omega (arith, ap bytes_of step.means, bytes_with (map (plain_file p) fs) n (map (text_under p) keys) long, ap size (plain_pieces p fs n), size_map (text_under p) keys, size_map (text_under p) (keys_in fs n), step.size)
+step_bytes {fs} {p} {n} {keys} step = grind (arith, common_steps, bytes_with, length-map, plain_pieces, size, size_map) steps 200000
 
 -- another state of one piece
 state_weight : (p : Pieces) (k m : ℕ) (piece : HeldPiece) (s : PieceState) → finite.get p k ≡ Some piece

@@ -228,8 +228,7 @@ module _ (view : FilesView) (n at : ℕ) (once : (q : ℕ) → places q view.key
     differs = steps.old_differs {fs = view.keyed} {p = view.pieces} {n = n} (record { is = refl; once = once }) {at = at} refl fits.0 old fits.1
 
     pub back_replaced : dropped here (exchanged view n at old) ≡ reversed n (action.Replaced at old) view
-    back_replaced = same_view _ _ refl
-        (state_drop (with_state view.pieces here (Parked n Replaced)) old here Standing (λ e. differs e) ∙ ap (λ p. with_state p old Standing) (drop_any view.pieces here _))
+    back_replaced = grind (arith, common_steps, differs, drop_any, same_view, state_drop) steps 200000
 
     pub parked_here : parked_under (exchanged view n at old).pieces here ≡ 1
     parked_here = ap parked_count (get_state_other (with_state view.pieces here (Parked n Replaced)) old Standing here (λ e. differs (sym e))) ∙ parked_once view.pieces here n Replaced
@@ -246,8 +245,7 @@ pub inserted_is : {view held : FilesView} {n k : ℕ} {text : List ℕ} → IsHe
 inserted_is {view} {held} {n} {k} {text} new at = ap (reversed n (action.Deleted at k)) new.is ∙ same_view _ _ refl (stands_new view.pieces k text (Parked n Deleted))
 
 pub replaced_is : {view held : FilesView} {n k : ℕ} {text : List ℕ} → IsHeld view held k text n Replaced → (at : ℕ) → key_at view n at ≢ k → exchanged held n at k ≡ replaced view n at k text
-replaced_is {view} {held} {n} {k} {text} new at differs =
-    ap (λ v. exchanged v n at k) new.is ∙ same_view _ _ refl (exchanged_new view.pieces k (key_at view n at) text (Parked n Replaced) (Parked n Replaced) differs)
+replaced_is {view} {held} {n} {k} {text} new at differs = grind (arith, common_steps, differs, exchanged_new, same_view) steps 200000
 
 module _ {view new : FilesView} {n : ℕ} {undo : UndoView} where
   done_by : {edit : Asked} → NamesPlace edit view n → BringsOneUnit (edited_text edit) → IsMadeOf edit n view new undo → bytes_of (plain new) ≤ 4294967295

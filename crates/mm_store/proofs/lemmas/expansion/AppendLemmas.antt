@@ -3,8 +3,7 @@ use Rattle.std.proofs.lemmas.{Grind.{common_steps}, List.{length-map, map_push, 
 use Rattle.std.proofs.Common.{◌≡◌, ◌≢◌, ℕ, zero, suc, ◌+◌, Some, List, [], ◌∷◌, ◌++◌, length, map, set, refl, sym, ap, ◌∙◌, subst, subst₂, arith, append_assoc, append-nil, Contains, slice_get}
 use Rattle.std.specs.{List.{insert}, Option.{option_map}}
 use Rattle.mm_text.specs.Language.{Cut.{ended}, Asked.{Asked, Insert}}
-use Rattle.mm_store.specs.{declared.item.Item.{Item}, Language.{Appending.{IsAppended}, Edits.{edited, with_members}}}
-use Rattle.mm_store.specs.Language.FilesView.{PieceView, FileView, File, FilesView, files_in, plain, file_number, number_of}
+use Rattle.mm_store.specs.{declared.item.Item.{Item}, Language.{Appending.{IsAppended}, Edits.{edited}, FilesView.{PieceView, FileView, File, FilesView, files_in, plain, file_number, number_of}}}
 use Rattle.mm_store.specs.Language.{Expansion.{Placed, ArePlaced, Expands, nothing, own, again, missing, included, IsExpansion}, Keyless.{bare, bare_file, keyless_item, one_key}}
 use Rattle.mm_store.proofs.lemmas.{edits.EditLawLemmas.{changed, changed_there, get_other, number_kept}, expansion.{ExpansionLemmas.{OneReading, OneDivision, placed_one, same}, GoesLemmas.{split}}}
 use Rattle.mm_store.proofs.lemmas.{expansion.KeylessLemmas.{expansion_bare}, files.{GrowthLemmas.{name_of_number}, ViewLemmas.{before_map}}}
@@ -57,7 +56,7 @@ begins_in : (files : List File) (k n : ℕ) (one other f g : File) (more : List 
     → slice_get files n ≡ Some f → slice_get (set files k other) n ≡ Some g → (behind : List (List ℕ)) × (g.pieces ≡ f.pieces ++ behind)
 begins_in [] k n one other f g more is longer at there = absurd (cc)
 begins_in (x ∷ files) zero zero one other f g more is longer at there =
-    (more, ap (λ (file : File). file.pieces) (sym (same_Some other g there)) ∙ longer ∙ ap (λ (file : File). file.pieces ++ more) (same_Some one f (sym is ∙ at)))
+    grind (arith, common_steps, longer, same_Some other g there, same_Some one f (sym is ∙ at)) steps 200000
 begins_in (x ∷ files) zero (suc n) one other f g more is longer at there = ([], ap (λ (file : File). file.pieces) (same_Some g f (sym there ∙ at)) ∙ sym (append-nil f.pieces))
 begins_in (x ∷ files) (suc k) zero one other f g more is longer at there = ([], ap (λ (file : File). file.pieces) (same_Some g f (sym there ∙ at)) ∙ sym (append-nil f.pieces))
 begins_in (x ∷ files) (suc k) (suc n) one other f g more is longer at there = begins_in files k n one other f g more is longer at there
@@ -75,15 +74,11 @@ there_bare files n = slice_get-map bare_file files n
 module _ (name : List ℕ) (old new : List File) (is : IsAppended name old new) where
   -- the pieces after the edit
   longer : edited (Insert name (length is.file.pieces) is.text) is.is_edit.file.pieces ≡ is.is_edit.file.pieces ++ ended is.text ∷ []
-  longer =
-      let same : is.file ≡ is.is_edit.file = grind (arith, common_steps, same_Some) steps 200000 in
-      ap (λ (file : File). insert is.is_edit.file.pieces (length file.pieces) (ended is.text)) same ∙ put_last is.is_edit.file.pieces (ended is.text)
+  longer = grind (arith, common_steps, put_last, same, same_Some) steps 200000
 
   -- each file has the pieces that it had, and those of the one file have one more behind them
   pub files_begin : (n : ℕ) (f g : File) → slice_get old n ≡ Some f → slice_get new n ≡ Some g → (more : List (List ℕ)) × (g.pieces ≡ f.pieces ++ more)
-  files_begin n f g at there =
-      begins_in old is.is_edit.number n is.is_edit.file (with_members is.is_edit.file (edited (Insert name (length is.file.pieces) is.text) is.is_edit.file.pieces)) f g (ended is.text ∷ [])
-      is.is_edit.placed.file_there.there longer at (sym (ap (λ files. slice_get files n) is.is_edit.is_after) ∙ there)
+  files_begin n f g at there = grind (arith, common_steps, begins_in, longer) steps 200000
 
   -- what the edit asks, the file that it changes, and that file after it
   abbrev asked : Asked

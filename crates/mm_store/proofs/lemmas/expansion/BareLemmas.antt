@@ -28,19 +28,9 @@ module _ (files : List FileView) where
     nothing_step : IsStep files old steps.Nothing new → IsStep (map keyless_file files) old steps.Nothing new
     nothing_step (inl l) = inl (record { front = l.front; level = l.level; last = l.last; none = at_keyless l.level ∙ ap (option_map keyless_piece) l.none; after = l.after })
     nothing_step (inr (inl a)) =
-        search (rules, here_keyless old.levels a.front a.level a.piece a.is_here, includes_keyless a.level.file a.level.piece a.piece a.name a.includes, keyless_piece a.piece) steps 200000
-    nothing_step (inr (inr e)) = inr (inr (record {
-      front = e.front;
-      level = e.level;
-      piece = keyless_piece e.piece;
-      is_here = here_keyless old.levels e.front e.level e.piece e.is_here;
-      name = e.name;
-      includes = includes_keyless e.level.file e.level.piece e.piece e.name e.includes;
-      fresh = e.fresh;
-      number = e.number;
-      is_number = number_keyless files e.name ∙ e.is_number;
-      after = e.after;
-    }))
+        search (rules, here_keyless old.levels a.front a.level a.piece a.is_here, includes_keyless a.level.file a.level.piece a.piece a.name a.includes, keyless_piece a.piece)
+    nothing_step (inr (inr e)) =
+        search (rules, here_keyless old.levels e.front e.level e.piece e.is_here, includes_keyless e.level.file e.level.piece e.piece e.name e.includes, keyless_piece e.piece, number_keyless files e.name)
 
     items_step : (spot : PlacedPiece) → IsStep files old (steps.Items spot) new → (other : PlacedPiece) × IsStep (map keyless_file files) old (steps.Items other) new
     items_step spot (inl p) = (

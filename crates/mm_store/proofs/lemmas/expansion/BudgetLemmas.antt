@@ -79,7 +79,7 @@ goes_few walking.here = omega arith
 goes_few (walking.own not d) = omega (arith, goes_few d)
 goes_few (walking.again is old d) = omega (arith, goes_few d)
 goes_few {files} (walking.missing {part = part} {names = names} is new none d) =
-    omega (arith, goes_few d, weight_less piece_bytes files names part.name, length-append names (part.name ∷ []))
+    grind (arith, common_steps, goes_few d, length-append, weight_less) steps 200000
 goes_few {files} (walking.included {part = part} {parts = parts} {names = names} {number = number} {file = file} inner is new at there placed d) =
     omega (
       arith,

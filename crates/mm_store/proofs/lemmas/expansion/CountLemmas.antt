@@ -25,7 +25,7 @@ parts_few (Block begin inner end later) = grind (arith, common_steps, parts_few 
 
 of_piece : (file n : ℕ) (piece : PieceView) (placed : List Placed) → ArePartsOf file n piece placed → length placed ≤ length piece.text
 of_piece file n piece placed are =
-    grind (arith, common_steps, named_are are.units, parts_few are.units, length-map are.words (token_of piece.text), length-map, runs_few, words_in_parts) steps 200000
+    grind (arith, common_steps, length-map are.words (token_of piece.text), length-map, named_are are.units, parts_few are.units, runs_few, words_in_parts) steps 200000
 
 pub placed_few : (file n : ℕ) (pieces : List PieceView) (placed : List Placed) → ArePlaced file n pieces placed → length placed ≤ length (concat (piece_texts pieces))
 placed_few file n [] placed are = omega (arith, ap length are)

@@ -1,7 +1,7 @@
 -- A walk that stands before a reference takes its name with the next step.
-use Rattle.std.proofs.lemmas.{List.{same_from_push}, Option.{none-some, same_Some}}
-use Rattle.std.{proofs.Common.{◌≡◌, ℕ, List, [], ◌∷◌, ◌++◌, Option, Some, None, refl, sym, ap, ◌∙◌, subst, Contains, inl, inr, slice_get}, specs.List.{AllByRecursion}}
-use Rattle.mm_store.specs.{declared.walk.PlacedPiece.{PlacedPiece}, Language.{FilesView.{PieceView, FileView}, Expansion.{Placed, IsInclusion, ArePartsOf}}}
+use Rattle.std.proofs.{Common.{arith, ◌≡◌, ℕ, List, [], ◌∷◌, ◌++◌, Option, Some, None, refl, sym, ap, ◌∙◌, subst, Contains, inl, inr, slice_get}, lemmas.{Grind.{common_steps}, List.{same_from_push}}}
+use Rattle.std.proofs.lemmas.Option.{none-some, same_Some}
+use Rattle.mm_store.specs.{declared.walk.PlacedPiece.{PlacedPiece}, Language.{FilesView.{PieceView, FileView}, Expansion.{Placed, ArePartsOf}}}
 use Rattle.mm_store.specs.{Language.Walking.{IsNextPiece, LevelView, StandsBefore, WalkView}, Code.Steps.{piece_in, piece_at, Includes, IsHere, IsStep}}
 use Rattle.mm_store.proofs.lemmas.{expansion.ExpansionLemmas.{OneReading, OneDivision, parts_one}, files.GrowthLemmas.{last_in}}
 use Rattle.mm_store.specs.declared.walk.Step.TheVariants as steps
@@ -13,8 +13,7 @@ file_of (Some file) n piece is = (file, refl, is)
 pub next_here : (files : List FileView) (levels front : List LevelView) (level : LevelView) (piece : PieceView) (part : Placed) → IsHere files levels front level piece
     → ArePartsOf level.file level.piece piece (part ∷ []) → IsNextPiece files levels part
 next_here files levels front level piece part here are =
-    let found = file_of (slice_get files level.file) level.piece piece here.there in
-    record { outer = front; innermost = level; last = here.last; file = found.0; there = found.1; piece = piece; is_piece = found.2; are_parts = are }
+    grind (arith, common_steps, file_of (slice_get files level.file) level.piece piece here.there) steps 200000
 
 first_same : (a b : Placed) → a ∷ [] ≡ b ∷ [] → a ≡ b
 first_same a b is = same_Some a b (ap (λ l. slice_get l 0) is)
@@ -24,9 +23,7 @@ module _ (one_reading : OneReading) (one_division : OneDivision) (files : List F
   there_at front level last = (same_from_push stands.is_next.outer front stands.is_next.innermost level (sym stands.is_next.last ∙ last)).1
 
   next_at : (front : List LevelView) (level : LevelView) → old.levels ≡ front ++ level ∷ [] → piece_at files level ≡ Some stands.is_next.piece
-  next_at front level last =
-      let next = stands.is_next in
-      ap (piece_at files) (sym (there_at front level last)) ∙ ap (λ found. piece_in found next.innermost.piece) next.there ∙ next.is_piece
+  next_at front level last = grind (arith, common_steps, there_at front level last) steps 200000
 
   -- the parts of the piece that is next
   same_parts : (front : List LevelView) (level : LevelView) (piece : PieceView) (placed : List Placed) → IsHere files old.levels front level piece
@@ -58,7 +55,5 @@ module _ (one_reading : OneReading) (one_division : OneDivision) (files : List F
   nothing_takes (inr (inr e)) = takes_name e.name (same_name e.front e.level e.piece e.name e.is_here e.includes) (ap (λ (walk : WalkView). walk.names) e.after)
 
   pub items_takes : (spot : PlacedPiece) → IsStep files old (steps.Items spot) new → Contains new.names part.name
-  items_takes spot (inl p) =
-      let own = subst (AllByRecursion (λ part. ¬ IsInclusion part)) (same_parts p.front p.level p.piece p.nothing.placed p.is_here p.nothing.are_parts) p.nothing.own in
-      absurd (own.0 stands.is_inclusion)
+  items_takes spot (inl p) = grind (arith, common_steps, same_parts p.front p.level p.piece p.nothing.placed p.is_here p.nothing.are_parts) steps 200000
   items_takes spot (inr p) = takes_name p.name (same_name p.front p.level p.piece p.name p.is_here p.includes) (ap (λ (walk : WalkView). walk.names) p.after)

@@ -1,5 +1,5 @@
 -- Sums over the pieces of a map.
-use Rattle.std.{proofs.Common.{rules, ◌≡◌, ℕ, ◌+◌, List, [], ◌∷◌, Some, None, cond, sym, ap, ◌∙◌, arith}, specs.declared.cmp.Ordering.TheVariants.{Less, Equal, Greater}}
+use Rattle.std.{proofs.{lemmas.Grind.{common_steps}, Common.{◌≡◌, ℕ, ◌+◌, List, [], ◌∷◌, Some, None, cond, sym, ap, ◌∙◌, arith}}, specs.declared.cmp.Ordering.TheVariants.{Less, Equal, Greater}}
 use Rattle.std.specs.{FinMap.Entries.{by_order, find, put}, Ordering.{nat_cmp, is_eq}, Cmp.{nat_cmp_total}}
 use Rattle.mm_store.{specs.{Code.Kept.{weigh}, Language.Pieces.{HeldPiece, Pieces}}, proofs.lemmas.files.MapLemmas.{get_put_same, get_put_other, get_drop_same, get_drop_other, same_but}}
 use Rattle.std.specs.FinMap as finite
@@ -33,4 +33,4 @@ module _ (w : HeldPiece → ℕ) where
 
   pub weight_put : (p : Pieces) (k : ℕ) (old v : HeldPiece) → finite.get p k ≡ Some old → weight (finite.insert p k v) + w old ≡ weight p + w v
   weight_put p k old v is =
-      search (rules, dropped_put p k v, get_drop_same p k, weight_dropped p k old is, weight_fresh (finite.remove p k) k v (get_drop_same p k)) steps 200000
+      grind (arith, common_steps, dropped_put p k v, get_drop_same p k, weight_dropped p k old is, weight_fresh (finite.remove p k) k v (get_drop_same p k)) steps 200000

@@ -47,15 +47,8 @@ module _ {inside : Inside} {n : ℕ} {v w : FileText} {keys : List ℕ} (file : 
 pub kept_beside : {inside : Inside} {actual now : Pieces} → AreFilesKept inside → actual ≡ now → ((q : ℕ) → standing_count (finite.get now q) ≡ standing_count (finite.get inside.pieces q))
     → ((m : ℕ) → deletions m now ≡ deletions m inside.pieces) → map (plain_file now) (map keyed_file inside.files.entries) ≡ plain (files_view inside)
     → AreFilesKept (record { files = inside.files; pieces = actual; bytes = inside.bytes })
-kept_beside {inside} {actual} {now} kept pieces stand same files = subst (λ m. AreFilesKept (record { files = inside.files; pieces = m; bytes = inside.bytes })) (sym pieces)
-    (record {
-      once = λ q. kept.once q ∙ sym (stand q);
-      room = room_same inside.pieces now 0 inside.files.entries (λ m lt. same m) kept.room;
-      known = λ m le. same m ∙ kept.known m le;
-      starts = subst (λ gs. HaveStarts gs inside.files.entries) (sym files) kept.starts;
-      counted = kept.counted ∙ ap bytes_of (sym files);
-      within = kept.within;
-    })
+kept_beside {inside} {actual} {now} kept pieces stand same files =
+    grind (arith, common_steps, room_same inside.pieces now 0 inside.files.entries (λ m lt. same m) kept.room) steps 200000
 
 -- a file has the pieces that were deleted from it
 pub deleted_from : {view : FilesView} (inside : Inside) (n old : ℕ) → AreFilesKept inside → files_view inside ≡ view → IsParked view.pieces old n Deleted → 0 < deletions n inside.pieces

@@ -50,12 +50,7 @@ map_kept f g (k ∷ keys) same =
 
 pub plain_kept : (p p' : Pieces) (files : List KeyedFile) → ((q : ℕ) → 1 ≤ places q files → text_under p' q ≡ text_under p q) → map (plain_file p') files ≡ map (plain_file p) files
 plain_kept p p' [] same = refl
-plain_kept p p' (file ∷ files) same = grind (
-  arith,
-  common_steps,
-  plain_kept p p' files (λ q some. same q (omega (arith, some))),
-  map_kept (text_under p) (text_under p') file.keys (λ q some. same q (omega (arith, some))),
-) steps 200000
+plain_kept p p' (file ∷ files) same = grind (arith, common_steps, plain_kept p p' files (λ q some. same q (omega (arith, some))), map_kept) steps 200000
 
 module _ (p p' : Pieces) (k : ℕ) (same : (q : ℕ) → q ≢ k → text_under p' q ≡ text_under p q) where
   pub texts_same : (keys : List ℕ) → times k keys ≡ 0 → map (text_under p') keys ≡ map (text_under p) keys

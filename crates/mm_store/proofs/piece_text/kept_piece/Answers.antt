@@ -1,4 +1,4 @@
-use Rattle.std.proofs.{Common.{ℕ, List, All, sym, subst, arith}, lemmas.Grind.{common_steps}}
+use Rattle.std.proofs.Common.{ℕ, List, All, sym, subst, arith}
 use Rattle.mm_text.specs.{declared.part.Part.{Part}, Language.{Unit.{Units}, Part.{HasUnits, HasParts, IsReadable, parts_of}}}
 use Rattle.mm_store.specs.Code.Inside.{CanBeKept}
 use Rattle.mm_store.proofs.piece_text.kept_piece.Goals as goal
@@ -17,6 +17,3 @@ kept_parts-requires-clause-starts c = rw c.deref.ensures.value (λ k d lt.
 pub kept_parts-requires-clause-ends : goal.kept_parts-requires-clause-ends
 kept_parts-requires-clause-ends c = rw c.deref.ensures.value (λ k d lt.
     (let lies = parts_lie c.args.piece.text c.args.piece.parts.items c.requires.text c.requires.parts c.parts_are_texts.ensures k d lt in omega (arith, lies.within, c.requires.text.small)))
-
-pub returns-clause-kept : goal.returns-clause-kept
-returns-clause-kept c = grind (arith, common_steps)

@@ -27,6 +27,3 @@ loop-piece-preserved c =
           ∙ ap (λ t. map (λ piece. piece.text) at.yielded ++ t ∷ []) c.in_ok-kept_piece.ensures.text ∙ sym (map-append (λ piece. piece.text) at.yielded (piece ∷ []));
       each = subst (All IsPieceKept) (sym pushed) (All-append IsPieceKept at.kept.items (kept ∷ []) at.invariant.each (All-cons IsPieceKept kept [] c.in_ok-kept_piece.ensures.kept (All-nil IsPieceKept)));
     }
-
-pub returns-clause-texts : goal.returns-clause-texts
-returns-clause-texts c = grind (arith, common_steps)

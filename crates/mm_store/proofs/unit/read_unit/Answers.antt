@@ -25,6 +25,3 @@ returns-clause-parts c = λ units has.
     let all : c.in_ok-text.text ≡ ended text = c.in_ok-text.ensures ∙ ap (λ (bs : List ℕ). bs ++ c.deref.result.now) c.as_slice.ensures ∙ ap (λ (bs : List ℕ). unit.text ++ bs) c.deref.ensures.value
     ∙ ap (λ (bs : List ℕ). bs ++ found.tail.items) (sym (append-nil unit.text)) ∙ cut.joined in
     parts 0 unit (omega arith) units (c.one_unit_of_cut.ensures.same text unit.text found.tail.items units cut (rw all at has)))
-
-pub returns-then-len-ne1-clause-err : goal.returns-then-len-ne1-clause-err
-returns-then-len-ne1-clause-err c = grind (arith, common_steps)

@@ -1,4 +1,4 @@
-use Rattle.std.{proofs.Common.{◌≡◌, Option, Some, ℕ, List, subst, IfSome, All}, specs.Borrow.{Bor}}
+use Rattle.std.{proofs.Common.{rules, ◌≡◌, Option, Some, ℕ, List, subst, IfSome, All}, specs.Borrow.{Bor}}
 use Rattle.mm_frame.specs.Language.{Base.{before}, Framing.{active_pairs}}
 use Rattle.mm_machine.specs.Language.{Frame.{Symbol, AreSamePairs}, Names.{AreDistinct}, NumberedSymbols.{kept_pairs, AreInOrder, IsPairNumbered, by_number}, Renaming.{renamed_pairs}}
 use Rattle.mm_machine.specs.{Language.{CodeLists.{meant_pairs}, Numbering.{unnaming}, RunLaws.{NumbersKeepPairs}}, declared.symbol.NumberedSymbol.{NumberedSymbol}}
@@ -16,8 +16,7 @@ answered keep names active found read distinct e same numbered =
 
 pub returns-clause-same : goal.returns-clause-same
 returns-clause-same c names view is proof =
-    answered c.numbers_keep_pairs.ensures names (active_pairs (before view c.args.number)) c.pairs.result c.unwrap.result is.distinct c.unwrap.ensures
-    (c.pairs.ensures.pairs names view is) (c.pairs.ensures.numbered names view is)
+    search (rules, answered c.numbers_keep_pairs.ensures names (active_pairs (before view c.args.number)) c.pairs.result c.unwrap.result is.distinct c.unwrap.ensures (c.pairs.ensures.pairs names view is) (c.pairs.ensures.numbered names view is))
 
 -- what is kept is in order
 in_order : (found : Option Kept) (read : Kept) → found ≡ Some read → IfSome found (λ pairs. AreInOrder pairs.now) → AreInOrder read.now

@@ -1,8 +1,8 @@
-use Rattle.std.{proofs.{Common.{◌≡◌, ◌<◌, ◌≤◌, ℕ, List, length, sym, ◌∙◌, ap, subst, arith}, lemmas.List.{length-map}}, specs.List.{AllByRecursion, flat_map}}
+use Rattle.std.{proofs.{lemmas.List.{length-map}, Common.{◌≡◌, ◌<◌, ◌≤◌, ℕ, List, length, sym, ◌∙◌, ap, subst, arith}}, specs.List.{AllByRecursion, flat_map}}
 use Rattle.mm_frame.specs.Language.Base.{said_at}
 use Rattle.mm_verdict.specs.{Language.{BaseLabels.{setting_at}, VerdictAt.{mandatory_labels, statement_at}, DecodedSteps.{decoded_steps, entry_steps}}, Code.Judged.{done_by}}
 use Rattle.mm_verdict.proofs.lemmas.decoding.DecodedProofs.{done_says}
-use Rattle.mm_machine.specs.{Language.NamedSteps.{IsOutcomeWithin, meant, actions_mean}, declared.step.ProofStep.{ProofStep}}
+use Rattle.mm_machine.specs.{Language.NamedSteps.{meant, actions_mean}, declared.step.ProofStep.{ProofStep}}
 use Rattle.mm_verdict.proofs.checking.judge_steps.Goals as goal
 
 pub returns-clause-says : goal.returns-clause-says
@@ -34,12 +34,6 @@ returns-clause-few c =
     let bytes = subst (λ (ws : List (List ℕ)). length (flat_map (λ word. word) ws) ≤ 4294967295) same c.again.ensures.bytes in
     let short = c.decodes_short.ensures (setting_at view i) (mandatory_labels view i) (said_at view i).proof (decoded_steps view d c.args.proof.words.now) some has.1.decodes in
     omega (arith, c.steps_done-done.ensures.within, c.len.ensures, d.steps.ok, length-map d.steps.items (λ (step : ProofStep). meant names step.action))
-
-pub steps_done-done-requires : goal.steps_done-done-requires
-steps_done-done-requires c =
-    let steps = c.args.proof.decoding.now.steps in
-    let count : length steps.items ≡ c.len.result = omega (arith, c.len.ensures, steps.ok) in
-    subst (λ n. IsOutcomeWithin n c.in_ok-outcome.outcome) count c.in_ok-outcome.ensures.within
 
 pub verdict-verdict-requires-clause-within : goal.verdict-verdict-requires-clause-within
 verdict-verdict-requires-clause-within c = c.in_ok-outcome.ensures.within

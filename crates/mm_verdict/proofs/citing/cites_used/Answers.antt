@@ -1,7 +1,6 @@
-use Rattle.std.{proofs.{Common.{arith, ℕ, List, ◌≡◌, Result, sym, ap, ◌∙◌, drop, min, length}, lemmas.{List.{drop_min, take_rest}, Result.{IfOk-weaker}}}, specs.List.{list_any}}
+use Rattle.std.{proofs.{Common.{rules, arith, ℕ, ◌≡◌, sym, ap, ◌∙◌, drop, min, length}, lemmas.{Grind.{common_steps}, List.{drop_min, take_rest}, Result.{IfOk-weaker}}}, specs.List.{list_any}}
 use Rattle.mm_frame.specs.Language.{Base.{BaseView, before, said_at}, Framing.{mandatory_numbers}}
-use Rattle.mm_machine.specs.{Language.Verdict.{Decoded}, declared.step.ProofFault.{ProofFault}}
-use Rattle.mm_verdict.specs.{Code.{Cited.{names_item, marked_at, item_cites}, DecodedProof.{IsDecodedIn}}, Language.{BaseLabels.{setting_at}, Citing.{cites, cited_words}}}
+use Rattle.mm_verdict.specs.{Code.{Cited.{names_item, marked_at, item_cites}, DecodedProof.{IsDecodedIn}}, Language.{BaseLabels.{setting_at}, Citing.{cited_words}}}
 use Rattle.mm_verdict.{specs.Language.{VerdictAt.{cites_at, mandatory_labels}, DecodedSteps.{decoded_steps}}, proofs.lemmas.base.FrameLemmas.{framed_proof}}
 use Rattle.mm_verdict.proofs.lemmas.{citing.{CitedWordLemmas.{cites_compressed, cites_normal}, MarkedLemmas.{cites_alike, listed_behind}}, machine.MarkedLabels.{masked_used}}
 use Rattle.mm_verdict.proofs.citing.cites_used.Goals.{In_ok-named}
@@ -10,20 +9,12 @@ use Rattle.mm_verdict.proofs.citing.cites_used.Goals as goal
 -- the assertions that are left are those that steps name
 left_is : (c : In_ok-named) (n from : ℕ) → let labels = c.args.proof.decoding.now.labels.items in
     item_cites (marked_at c.named.new.marks.items) from (drop n labels) ≡ item_cites (λ j. list_any (names_item labels j) c.args.proof.decoding.now.steps.items) from (drop n labels)
-left_is c n from =
-    let d = c.args.proof.decoding.now in
-    let labels = d.labels.items in
-    cites_alike (marked_at c.named.new.marks.items) (λ j. list_any (names_item labels j) d.steps.items) from (drop n labels) (λ j e.
-    (rw (c.deref-labels.ensures.value, c.deref.ensures.value) at c.in_ok-named.ensures) j (listed_behind n labels j e) ∙ masked_used labels d.used.items d.steps.items d.marked j)
+left_is c n from = search (rules, cites_alike, listed_behind, masked_used)
 
 -- the words that cite are those of the item's proof
 its_cites : (c : In_ok-named) (view : BaseView) → IsDecodedIn c.args.proof view → let proof = c.args.proof in
     cited_words (setting_at view proof.i) proof.words.now (decoded_steps view proof.decoding.now proof.words.now).steps ≡ cites_at view proof.i
-its_cites c view is =
-    let proof = c.args.proof in
-    let place = setting_at view proof.i in
-    let steps = (decoded_steps view proof.decoding.now proof.words.now).steps in
-    sym (ap (λ (o : Result Decoded ProofFault). cites place (said_at view proof.i).proof o) is.decodes ∙ ap (λ (words : List (List ℕ)). cited_words place words steps) is.theorem.says)
+its_cites c view is = grind (arith, common_steps) steps 200000
 
 pub returns-then-is_compressed : goal.returns-then-is_compressed
 returns-then-is_compressed c = IfOk-weaker c.cited.result _ _ (λ words says view is.

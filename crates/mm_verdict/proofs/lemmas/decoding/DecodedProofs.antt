@@ -3,12 +3,11 @@ use Rattle.std.proofs.Common.{◌≡◌, ℕ, zero, suc, ◌<◌, false, cond, S
 use Rattle.std.{proofs.lemmas.{Grind.{common_steps, elements}, List.{take-map, Sums.{sum_by-cons}}, Option.{slice_get-map}}, specs.Option.{option_map}}
 use Rattle.mm_frame.specs.{declared.base.{Base.{Base}, Resolved.{Resolved}}, Language.{Base.{BaseView, before, said_at}, Framing.{mandatory_numbers}}}
 use Rattle.mm_machine.specs.Language.{Frame.{Symbol, Setting}, Expansion.{Step, Saved, NotKnown}, Machine.{AreDecoded, is_save}, Run.{AreDone}}
-use Rattle.mm_machine.specs.{Language.{NamedSteps.{meant, AreSavedBefore, IsSavedWithin, RunSays, actions_mean, saves_by, saves_in}, Verdict.{IsVerdict}}, declared.step.Action.{Action}}
-use Rattle.mm_machine.specs.declared.{step.{ProofStep.{ProofStep}, ProofFault.{ProofFault}}, stepping.RunOutcome.{RunOutcome, TheVariants.{Proved, Fault, Unknown, NotOne, Other}}}
-use Rattle.mm_machine.specs.declared.Verdict.TheVariants.{Wrong}
-use Rattle.mm_verdict.specs.Language.{BaseLabels.{setting_at}, DecodingLaws.{DecodesSurely, MandatoryAreActive}, VerdictAt.{mandatory_labels, AreDoneIn, decoding_at, statement_at}}
-use Rattle.mm_verdict.specs.{Language.{DecodedSteps.{decoded_steps, entry_steps}, Citing.{cites}}, Code.{Judged.{IsDecoding, done_by}, DecodedProof.{IsJudgedProof}}}
-use Rattle.mm_verdict.{specs.declared.{decoding.Decoding.{Decoding}, work.Checked.{Checked}}, proofs.lemmas.verdicts.ItemLemmas.{active_usable}}
+use Rattle.mm_machine.specs.{Language.NamedSteps.{meant, AreSavedBefore, IsSavedWithin, RunSays, actions_mean, saves_by, saves_in}, declared.step.{Action.{Action}, ProofStep.{ProofStep}}}
+use Rattle.mm_machine.specs.declared.{step.ProofFault.{ProofFault}, stepping.RunOutcome.{RunOutcome, TheVariants.{Proved, Fault, Unknown, NotOne, Other}}, Verdict.TheVariants.{Wrong}}
+use Rattle.mm_verdict.specs.Language.{BaseLabels.{setting_at}, DecodingLaws.{DecodesSurely, MandatoryAreActive}, VerdictAt.{mandatory_labels, decoding_at}, DecodedSteps.{decoded_steps, entry_steps}}
+use Rattle.mm_verdict.specs.{Code.{Judged.{IsDecoding, done_by}, DecodedProof.{IsJudgedProof}}, declared.{decoding.Decoding.{Decoding}, work.Checked.{Checked}}}
+use Rattle.mm_verdict.proofs.lemmas.verdicts.ItemLemmas.{active_usable}
 use Rattle.mm_machine.specs.declared.step.Action.TheVariants as actions
 
 -- ---- entries
@@ -52,11 +51,7 @@ decoded_saved active sure code i proof d view is =
 
 -- a fault of decoding is the verdict, with no word that cites and no step that is done
 pub fault_judged : (view : BaseView) (i : ℕ) (fault : ProofFault) (judged : Checked) → judged.verdict ≡ Wrong fault.number fault.spot → judged.cites ≡ [] → decoding_at view i ≡ Err fault → IsJudgedProof view i (judged, 0)
-fault_judged view i fault judged verdict cited is = record {
-  verdict = subst (λ d. IsVerdict (setting_at view i) (statement_at view i) d judged.verdict) (sym is) verdict;
-  cites = cited ∙ sym (ap (cites (setting_at view i) (said_at view i).proof) is);
-  done = subst (λ d. AreDoneIn (setting_at view i) d 0) (sym is) refl;
-}
+fault_judged view i fault judged verdict cited is = grind (arith, common_steps) steps 200000
 
 -- ---- steps that are done
 

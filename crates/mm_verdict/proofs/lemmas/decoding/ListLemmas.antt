@@ -1,5 +1,5 @@
 -- The list of labels read from left to right is the list.
-use Rattle.std.proofs.{Common.{true, ◌≡◌, ℕ, suc, ◌+◌, false, Result, Ok, Err, List, [], ◌∷◌, ◌++◌, length, refl, ap, ◌∙◌, arith, append-nil, codes}, lemmas.Grind.{common_steps}}
+use Rattle.std.proofs.{Common.{rules, true, ◌≡◌, ℕ, suc, ◌+◌, false, Result, Ok, Err, List, [], ◌∷◌, ◌++◌, length, refl, ap, ◌∙◌, arith, append-nil, codes}, lemmas.Grind.{common_steps}}
 use Rattle.std.{proofs.{lemmas.{Bool.{cases_Bool, or_parts}, Slice.Eq.{bytes_eq-Decides}}, Math.Numerals.{one-add}}, specs.List.{list_any, before_first}}
 use Rattle.mm_machine.specs.{Language.{Frame.{Setting}, Expansion.{Step}}, declared.{Spot.{Spot}, ProofNumber.{ProofNumber}}}
 use Rattle.mm_verdict.specs.Language.Decoding.{Steps, read_first, in_order, readings_of_words, read_label, is_close, letter_steps, compressed_steps, word_spot}
@@ -81,7 +81,7 @@ by_label place mandatory close listed word words (Err number) e are other rest =
 list_joined : (place : Setting) (mandatory : List (List ℕ)) (close : Spot) (listed words : List (List ℕ)) → AreListed place 1 listed → Joined place mandatory close listed words
 list_joined place mandatory close listed [] are = at_end place mandatory close listed are
 list_joined place mandatory close listed (word ∷ words) are =
-    grind (arith, common_steps, cases_Bool (is_close word), at_close place mandatory close listed words are, list_joined place mandatory close (listed ++ word ∷ []) words, by_label, bytes_eq-Decides) steps 200000
+    search (rules, list_joined place mandatory close (listed ++ word ∷ []) words, at_close, by_label, bytes_eq-Decides, cases_Bool)
 
 -- the list from its beginning
 pub list_is : (place : Setting) (mandatory : List (List ℕ)) (close : Spot) (words : List (List ℕ)) → compressed_steps place mandatory words close ≡ list_on place mandatory close [] 1 words

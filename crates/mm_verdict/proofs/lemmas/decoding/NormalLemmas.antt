@@ -1,7 +1,6 @@
 -- A normal proof as the code reads it.
-use Rattle.std.proofs.lemmas.{Grind.{common_steps}, List.{append-nil, map-append, length-append, length-map, map_more, take_all, drop_more}, Bool.{cases_Bool}}
-use Rattle.std.proofs.Common.{◌≡◌, ℕ, ◌+◌, ◌<◌, ◌≤◌, Result, Ok, List, [], ◌∷◌, ◌++◌, length, map, drop, get_or, refl, sym, ap, ◌∙◌, append_assoc, arith, bytes_eq, codes}
-use Rattle.std.proofs.Math.ListN.{drop_of_length-le}
+use Rattle.std.proofs.Common.{rules, ◌≡◌, ℕ, ◌+◌, ◌<◌, ◌≤◌, Result, Ok, List, [], ◌∷◌, ◌++◌, length, map, drop, get_or, refl, sym, ap, ◌∙◌, append_assoc, arith, bytes_eq, codes}
+use Rattle.std.proofs.{lemmas.{Grind.{common_steps}, List.{append-nil, map-append, length-append, length-map, map_more, take_all, drop_more}, Bool.{cases_Bool}}, Math.ListN.{drop_of_length-le}}
 use Rattle.mm_machine.specs.{Language.{Frame.{Setting}, Expansion.{Step}, NamedSteps.{meant}}, declared.{Spot.{Spot}, ProofNumber.{ProofNumber}, step.{Action.{Action}, ProofStep.{ProofStep}}}}
 use Rattle.mm_frame.specs.{Language.Base.{BaseView}, declared.base.Resolved.{Resolved}}
 use Rattle.mm_verdict.specs.Language.{BaseLabels.{setting_at}, DecodedSteps.{entry_step, entry_steps, IsEntry, word_step}, Decoding.{read_first, in_order, readings_of_words, read_word, word_spot}}
@@ -24,9 +23,7 @@ module _ (view : BaseView) (i : ℕ) (words : List (List ℕ)) (n : ℕ) (labels
       (word : List ℕ) (more : List Step) → n < length words → word ≡ get_or words n [] →
       with_steps (meant_steps (entry_steps view labels ++ more) steps) (read_first (word_spot n) (read_word (setting_at view i) word)
       (in_order (readings_of_words (read_word (setting_at view i)) (n + 1) (drop (n + 1) words)))) ≡ in_order (readings_of_words (read_word (setting_at view i)) 0 words)
-  by_word word more less is = ap (λ (w : List (List ℕ)). with_steps (meant_steps (entry_steps view labels ++ more) steps)
-      (in_order (readings_of_words (read_word (setting_at view i)) n w))) (ap (λ (w : List ℕ). w ∷ drop (n + 1) words) is ∙ sym (drop_more words n [] less)) ∙
-      normal.rest more
+  by_word word more less is = search (rules, drop_more words n [] less)
 
   -- one more word
   pub word_on :

@@ -41,10 +41,7 @@ pub other_found :
     (aim : Aim) (reader : LetterReader) (byte : ℕ) (found : Result Action ProofNumber) → byte < 256 → 25 ≤ (byte + 191) % 256 →
     ((names : List Step) (saves n : ℕ) → is_last byte ≡ false → reader.digits ≡ min n (2 ^ 64 - 1) → meant_or names found ≡ read_behind (nameable names saves) n byte) →
     IsFound aim reader byte found
-other_found aim reader byte found fits more says = record {
-  other = grind (arith, common_steps) steps 200000;
-  says = λ n len digits. says aim.names reader.saves n (grind (arith, common_steps) steps 200000) digits;
-}
+other_found aim reader byte found fits more says = grind (arith, common_steps) steps 200000
 
 not_saved : (b : Bool) (saves : ℕ) → b ≡ false → saves ≡ cond b (saves + 1) saves
 not_saved b saves e = rw e refl

@@ -1,6 +1,6 @@
 -- The list of labels as the code reads it.
 use Rattle.std.proofs.lemmas.{Grind.{elements, common_steps}, List.{append-nil, map-append, drop_more}, Simd.{map-map}}
-use Rattle.std.proofs.Common.{rules, arith, ◌≡◌, ℕ, ◌+◌, ◌<◌, ◌≤◌, true, false, Ok, Err, List, [], ◌∷◌, ◌++◌, length, map, drop, get_or, refl, sym, ap, ◌∙◌, subst, append_assoc}
+use Rattle.std.proofs.Common.{arith, ◌≡◌, ℕ, ◌+◌, ◌<◌, ◌≤◌, true, false, Ok, Err, List, [], ◌∷◌, ◌++◌, length, map, drop, get_or, refl, sym, ap, ◌∙◌, subst, append_assoc}
 use Rattle.std.{proofs.Math.ListN.{drop_of_length-le}, specs.List.{before_first}}
 use Rattle.mm_machine.specs.{Language.Expansion.{Step, Named}, declared.{step.ProofStep.{ProofStep}, ProofNumber.TheVariants.{P03}}}
 use Rattle.mm_frame.specs.{Language.Base.{BaseView}, declared.base.Resolved.{Resolved}}
@@ -28,7 +28,7 @@ module _ (view : BaseView) (i : ℕ) (mandatory words : List (List ℕ)) (n : �
   -- at the `)`
   pub ends : (word : List ℕ) → n < length words → word ≡ get_or words n [] → is_close word ≡ true → IsListed view i mandatory words n labels
   ends word less is close =
-      search (rules, before_close lists.listed (drop (n + 1) words) lists.open_yet, by_next word less is, by_word word less is, word_is word close) steps 200000
+      grind (arith, common_steps, before_close lists.listed (drop (n + 1) words) lists.open_yet, by_next word less is, by_word word less is, word_is word close) steps 200000
 
   -- at a label that can be used
   pub goes_on : (word : List ℕ) (meaning : Resolved) → n < length words → word ≡ get_or words n [] → is_close word ≡ false

@@ -1,8 +1,8 @@
 -- The items of a base that a machine has loaded.
-use Rattle.std.proofs.Common.{◌≡◌, ◌≢◌, ◌<◌, ◌⊎◌, ◌-◌, ℕ, Bool, true, false, ◌&&◌, ◌||◌, List, [], ◌++◌, All, length, get_or, set, inl, inr, refl, sym, ◌∙◌, ap, subst, arith, get_or-set_other}
-use Rattle.std.proofs.{Common.{get_or-set_same, length-append}, lemmas.{Bool.{false≢true}, List.{get_or_append_left, get_or-append_right, get_or_default, get_or_past, length-set}}}
-use Rattle.std.proofs.Math.Decide.{dec_lt, ℕ_discrete}
-use Rattle.mm_frame.specs.{declared.base.{Base.{Base}, Resolved.{Resolved}}, Language.Base.{AreHypotheses, BaseView, is_framed_at, is_sound_at, said_at}}
+use Rattle.std.proofs.Common.{rules, ◌≡◌, ◌≢◌, ◌<◌, ◌⊎◌, ◌-◌, ℕ, Bool, true, false, ◌&&◌, ◌||◌, List, [], ◌++◌, All, length, get_or, set, inl, inr, refl, sym, ◌∙◌, ap, subst, arith, get_or-set_other}
+use Rattle.std.proofs.{Common.{get_or-set_same, length-append}, lemmas.{Grind.{common_steps}, Bool.{false≢true}}}
+use Rattle.std.proofs.{lemmas.List.{get_or_append_left, get_or-append_right, get_or_default, get_or_past, length-set}, Math.Decide.{dec_lt, ℕ_discrete}}
+use Rattle.mm_frame.specs.{declared.base.{Base.{Base}, Resolved.{Resolved}}, Language.Base.{AreHypotheses, BaseView, is_framed_at}}
 use Rattle.mm_frame.specs.mm_statement.Language.Item.{Kind, Axiom, Essential, Floating, Theorem, is_assertion, is_kind}
 use Rattle.mm_machine.specs.{Language.{Frame.{Mandatory}, Lasting.{lasting_of, lasting_or}, NumberedSymbols.{by_code}}, declared.{machine.Machine.{Machine}, symbol.CodedSymbol.{CodedSymbol}}}
 use Rattle.mm_verdict.specs.{Language.Loaded.{HasHypotheses, HasItem, IsItemOf, IsLoaded}, Code.NamedItems.{IsThere, KeepsItems}}
@@ -58,10 +58,7 @@ module _ (code : Base) (lasting more : List Mandatory) (none : All (λ (h : Mand
   item_within j has = (omega (arith, has.0, length-append lasting more), subst (IsItemOf code j) (sym (get_or_append_left lasting more nothing j has.0)) has.1)
 
   none_behind : (k : ℕ) → (get_or more k nothing).expression ≡ []
-  none_behind k = elim (dec_lt k (length more)) [
-    | yes within ↦ none k nothing within
-    | no past ↦ ap (λ (h : Mandatory). h.expression) (get_or_past more k nothing (omega (arith, past)))
-  ]
+  none_behind k = grind (arith, common_steps, dec_lt, get_or_past) steps 200000
 
   pub loaded_places : AreLoaded code (lasting ++ more)
   loaded_places j some = elim (dec_lt j (length lasting)) [
@@ -85,10 +82,7 @@ and_false true = refl
 and_false false = refl
 
 pub hypotheses_cite_nothing : (view : BaseView) (i : ℕ) (numbers : List ℕ) → AreHypotheses view i numbers → All (λ n. is_framed_at view n ≡ false) numbers
-hypotheses_cite_nothing view i numbers are k d l =
-    let n = get_or numbers k d in
-    let here = (are.which n).0 (k, l, get_or_default numbers k n d l) in
-    ap (λ b. is_sound_at view n && b) (no_assertion (said_at view n).kind _ here.mandatory) ∙ and_false (is_sound_at view n)
+hypotheses_cite_nothing view i numbers are k d l = search (rules, and_false, get_or_default, no_assertion)
 
 -- ---- a machine that loads
 

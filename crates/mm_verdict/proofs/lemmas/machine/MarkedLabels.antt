@@ -1,8 +1,7 @@
 -- Marks for the labels that steps name, and the labels that are marked.
-use Rattle.std.proofs.lemmas.{Grind.{common_steps}, Bool.{cases_Bool, false≢true}, List.{take_more, Folds.{list_any-append}}, Map.Keys.{any_passes_from_place}}
-use Rattle.std.proofs.lemmas.Option.{same_Some, slice_get_cases, slice_get_past, slice_get_within}
-use Rattle.std.proofs.Common.{◌≡◌, ℕ, zero, suc, ◌+◌, ◌<◌, Bool, true, false, ◌||◌, if◌then◌else◌, Some, List, [], ◌∷◌, ◌++◌, length, take, get_or, refl, sym, ◌∙◌, ap, inl, inr, slice_get, eq-eqb}
-use Rattle.std.{proofs.{Common.{arith}, Math.Bool.{or-false}}, specs.{Cmp.{both_ways}, List.{list_any}}}
+use Rattle.std.proofs.Common.{rules, ◌≡◌, ℕ, zero, suc, ◌+◌, ◌<◌, Bool, true, false, ◌||◌, if◌then◌else◌, Some, List, [], ◌∷◌, ◌++◌, length, take, get_or, refl, ◌∙◌, ap, inl, inr, slice_get, eq-eqb}
+use Rattle.std.proofs.{Common.{arith}, lemmas.{Grind.{common_steps}, Bool.{cases_Bool, false≢true}, List.{take_more, Folds.{list_any-append}}, Map.Keys.{any_passes_from_place}}}
+use Rattle.std.{proofs.{lemmas.Option.{same_Some, slice_get_cases, slice_get_past, slice_get_within}, Math.Bool.{or-false}}, specs.{Cmp.{both_ways}, List.{list_any}}}
 use Rattle.mm_frame.specs.declared.base.Resolved.{Resolved}
 use Rattle.mm_verdict.specs.Code.{Cited.{cited_item, is_item, is_listed, item_named, marked_at, masked, names_item}, UsedLabels.{AreUseMarks, label_named, names_label}}
 use Rattle.mm_machine.specs.declared.step.{Action.{Action}, ProofStep.{ProofStep}}
@@ -77,7 +76,7 @@ masked_at (label ∷ labels) (mark ∷ marks) (suc k) d b l e = masked_at labels
 pub masked_next : (labels : List Resolved) (marks : List Bool) (k : ℕ) (d : Resolved) (b : Bool) → k < length labels → length marks ≡ length labels →
     take (k + 1) (masked labels marks) ≡ take k (masked labels marks) ++ (if get_or marks k b then get_or labels k d else answers.Unknown) ∷ []
 masked_next labels marks k d b l e =
-    take_more (masked labels marks) k d (omega (arith, l, masked_count labels marks)) ∙ ap (λ u. take k (masked labels marks) ++ u ∷ []) (masked_at labels marks k d b l e)
+    search (rules, masked_at labels marks k d b l e, masked_count labels marks, take_more (masked labels marks) k d (omega (arith, l, masked_count labels marks)))
 
 -- the marked labels list the assertions that the steps name
 module _ (labels : List Resolved) (marks : List Bool) (steps : List ProofStep) (are : AreUseMarks (length labels) marks steps) where
@@ -85,25 +84,14 @@ module _ (labels : List Resolved) (marks : List Bool) (steps : List ProofStep) (
   used = masked labels marks
 
   kept : (n : ℕ) (step : ProofStep) → slice_get steps n ≡ Some step → (k : ℕ) → step.action ≡ actions.Label k → slice_get used k ≡ slice_get labels k
-  kept n step at k names = elim (slice_get_cases labels k).1 [
-    | inl there ↦ masked_marked labels marks k (are.each k there.1 ∙ any_passes_from_place (names_label k) steps n step at (names_it step.action k names))
-    | inr past ↦ let beyond = past.0 in slice_get_past used k (omega (arith, beyond, masked_count labels marks)) ∙ sym past.1
-  ]
+  kept n step at k names = search (rules, any_passes_from_place, masked_count, masked_marked, names_it, slice_get_cases, slice_get_past)
 
   listed : (j : ℕ) → list_any (names_item labels j) steps ≡ true → is_listed used j ≡ true
-  listed j e =
-      let step = found (names_item labels j) steps e in
-      listed_by labels used j step.1.action (kept step.0 step.1 step.2) step.3
+  listed j e = grind (arith, common_steps, found, kept, listed_by) steps 200000
 
   named_by : (j k : ℕ) (u : Resolved) → slice_get used k ≡ Some u → is_item (cited_item (Some u)) j ≡ true → list_any (names_item labels j) steps ≡ true
-  named_by j k u at e = let less = slice_get_within used k u at in let within : k < length labels = omega (arith, less, masked_count labels marks) in
-      elim (cases_Bool (marked_at marks k)) [
-        | inl t ↦ (let step = found (names_label k) steps (sym (are.each k within) ∙ t) in
-            any_passes_from_place (names_item labels j) steps step.0 step.1 step.2
-            (ap (λ o. is_item o j) (named_at labels k step.1.action step.3 ∙ ap cited_item (sym (masked_marked labels marks k t) ∙ at)) ∙ e))
-        | inr f ↦ (let nothing = same_Some u answers.Unknown (sym at ∙ masked_out labels marks k within f) in
-            absurd (false≢true (sym (ap (λ label. is_item (cited_item (Some label)) j) nothing) ∙ e)))
-      ]
+  named_by j k u at e =
+      search (rules, any_passes_from_place, cases_Bool, false≢true, found, masked_count, masked_marked, masked_out, named_at, same_Some, slice_get_within)
 
   named : (j : ℕ) → is_listed used j ≡ true → list_any (names_item labels j) steps ≡ true
   named j e = let entry = found (λ label. is_item (cited_item (Some label)) j) used e in named_by j entry.0 entry.1 entry.2 entry.3

@@ -1,12 +1,12 @@
 -- What the labels of a proof name, by what a machine has loaded.
-use Rattle.std.proofs.lemmas.{List.{length-map, Elements.{All-nil, All-cons}}, Option.{slice_get-get_or, slice_get-map, slice_get_within}}
+use Rattle.std.proofs.lemmas.{Grind.{common_steps}, List.{length-map, Elements.{All-nil, All-cons}}, Option.{slice_get-get_or, slice_get-map, slice_get_within}}
 use Rattle.std.{proofs.Common.{◌≡◌, ℕ, ◌≤◌, ◌<◌, ◌⊎◌, inl, inr, true, Some, List, [], ◌∷◌, ◌++◌, length, map, sym, ◌∙◌, ap, subst, arith, slice_get, All}, specs.{List.{AllZip}, Option.{option_map}}}
 use Rattle.mm_verdict.specs.Code.NamedItems.{AreCited, AreKnownOf, AreNamesOf, HasItems, IsNamedBy, IsUseIn, IsUseOf, TakesNothing}
-use Rattle.mm_verdict.specs.{Code.NumberedBase.{numbered_frame, numbered_hypothesis, numbered_setting}, Language.DecodedSteps.{AreEntries, IsEntry, entry_step, entry_steps}}
-use Rattle.mm_verdict.{specs.{Language.Loaded.{HasItem, IsItemOf}, declared.known.Known.{Known}}, proofs.lemmas.{base.FrameLemmas.{shown_framed}, machine.LoadedLemmas.{AreLoaded}}}
+use Rattle.mm_verdict.specs.{Code.NumberedBase.{numbered_frame, numbered_hypothesis, numbered_setting}, Language.{DecodedSteps.{AreEntries, IsEntry, entry_step, entry_steps}, Loaded.{HasItem}}}
+use Rattle.mm_verdict.{specs.declared.known.Known.{Known}, proofs.lemmas.{base.FrameLemmas.{shown_framed}, machine.LoadedLemmas.{AreLoaded}}}
 use Rattle.mm_frame.specs.{declared.base.{Base.{Base}, Resolved.{Resolved}}, Language.{Base.{BaseView, is_framed_at, is_shown_at}, Answering.{IsBase, IsBaseBy}}}
 use Rattle.mm_machine.specs.Language.{Frame.{Symbol, Mandatory, LabelMeaning, Assertion}, Keys.{key_by_number}, Renaming.{renamed_meaning}, Numbering.{unnaming}}
-use Rattle.mm_machine.specs.Language.{NamedSteps.{IsUseWithin, MeansUse, Pushes}, Lasting.{HoldsLasting, cited_frame, lasting_at, lasting_of, lasting_or}, NumberedSymbols.{by_code, by_number}}
+use Rattle.mm_machine.specs.Language.{NamedSteps.{IsUseWithin, MeansUse, Pushes}, Lasting.{HoldsLasting, cited_frame, lasting_at, lasting_of}, NumberedSymbols.{by_code, by_number}}
 use Rattle.mm_machine.specs.declared.{machine.Machine.{Machine}, named.{Cited.{Cited}, Use.{Use}}, symbol.{CodedSymbol.{CodedSymbol}, NumberedSymbol.{NumberedSymbol}}}
 use Rattle.mm_frame.specs.declared.base.Resolved.TheVariants as answers
 use Rattle.mm_machine.specs.declared.named.Use.TheVariants as uses
@@ -75,12 +75,7 @@ module _ (code : Base) (lasting : List Mandatory) (cited : Assertions) (names : 
   -- the expression that a use pushes
   pushed : (n j : ℕ) → n ≡ j → HasItem code lasting n → is_shown_at view j ≡ true →
       (e : List Symbol) × (slice_get (map (λ h. h.expression) lasting) n ≡ Some e) × (e ≡ (numbered_hypothesis names view j).expression)
-  pushed n j same has shown =
-      let h = lasting_or lasting n in (
-        h.expression,
-        slice_get-map (λ (h : Mandatory). h.expression) lasting n ∙ ap (option_map (λ (h : Mandatory). h.expression)) (slice_get-get_or lasting n _ has.0),
-        ap (λ h. h.expression) (subst (λ m. IsItemOf code m h) same has.1 names view base shown),
-      )
+  pushed n j same has shown = grind (arith, common_steps, slice_get-get_or, slice_get-map) steps 200000
 
   -- and they mean what the entries mean
   one_means : (i : ℕ) (u : Use) (l : Resolved) → IsUseOf code lasting cited u l → IsEntry view i l →

@@ -1,7 +1,6 @@
 -- Labels as the words of a normal proof: each is one step, and they stand for themselves.
-use Rattle.std.proofs.lemmas.{Bool.{false≢true, false_from_ne_true}, List.{append-nil}, Slice.Eq.{bytes_eq-Decides}}
-use Rattle.std.proofs.Common.{◌≡◌, ℕ, ◌+◌, false, Some, Result, Ok, List, [], ◌∷◌, ◌++◌, length, map, refl, sym, ap, ◌∙◌, subst, bytes_eq, codes, append_assoc}
-use Rattle.std.specs.List.{AllByRecursion, enumerate_from, list_all}
+use Rattle.std.proofs.{Common.{arith, ◌≡◌, ℕ, ◌+◌, false, Some, Result, Ok, List, [], ◌∷◌, ◌++◌, length, map, refl, sym, ap, ◌∙◌, subst, bytes_eq, codes, append_assoc}, lemmas.Grind.{common_steps}}
+use Rattle.std.{proofs.lemmas.{Bool.{false≢true, false_from_ne_true}, List.{append-nil}, Slice.Eq.{bytes_eq-Decides}}, specs.List.{AllByRecursion, enumerate_from, list_all}}
 use Rattle.mm_verdict.{proofs.lemmas.{decoding.OrderLemmas.{decoded}, lists.Every.{joined}}, specs.Language.ItemLaws.{CouldLabel, LabelsAreAProof}}
 use Rattle.mm_verdict.specs.Language.Decoding.{Steps, read_first, in_order, readings_of_words, read_word, read_label, usable, word_spot, decoding, steps_in, is_compressed}
 use Rattle.mm_frame.specs.mm_text.Language.Unit.{is_label_byte}
@@ -30,8 +29,7 @@ numbered n words = map (λ (word : ℕ × List ℕ). (Named word.1, word_spot wo
 
 -- a word that could be a label is none of the signs of a proof
 no_sign : (sign word : List ℕ) → list_all is_label_byte sign ≡ false → CouldLabel word → bytes_eq word sign ≡ false
-no_sign sign word other could =
-    false_from_ne_true (bytes_eq word sign) (λ same. false≢true (sym other ∙ ap (list_all is_label_byte) (sym ((bytes_eq-Decides word sign).0 same)) ∙ could))
+no_sign sign word other could = grind (arith, common_steps, bytes_eq-Decides, false_from_ne_true, false≢true) steps 200000
 
 one_word : (place : Setting) (word : List ℕ) → CouldLabel word → IsUsable place word → read_word place word ≡ Ok (Named word)
 unfolding is_label_byte

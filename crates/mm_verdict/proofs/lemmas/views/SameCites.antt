@@ -1,6 +1,7 @@
 -- Proofs that mean the same cite by the same words.
-use Rattle.std.proofs.{Common.{arith, ◌≡◌, ℕ, ◌+◌, Bool, true, false, not, Ok, Err, List, [], ◌∷◌, length, map, drop, refl, ap, inl, inr, filter, bytes_eq, codes}, lemmas.Grind.{common_steps}}
-use Rattle.std.{proofs.lemmas.{Bool.{cases_Bool, false≢true}, Slice.Eq.{bytes_eq-Decides}}, specs.List.{AllZip, AllByRecursion, list_any, enumerate_from, before_first}}
+use Rattle.std.proofs.lemmas.{Grind.{common_steps}, Bool.{cases_Bool, false≢true}, Slice.Eq.{bytes_eq-Decides}}
+use Rattle.std.proofs.Common.{arith, ◌≡◌, ℕ, ◌+◌, Bool, true, false, not, Ok, Err, List, [], ◌∷◌, length, map, drop, refl, ap, inl, inr, filter, bytes_eq, codes}
+use Rattle.std.specs.List.{AllZip, AllByRecursion, list_any, enumerate_from, before_first}
 use Rattle.mm_verdict.proofs.lemmas.{decoding.OrderLemmas.{decoded}, views.SameLemmas.{IsBoth, AreSame, steps_same}, lists.Every.{kept_all}}
 use Rattle.mm_verdict.specs.Language.{Citing.{label_words, first_of_each, means_assertion, names_assertion, is_cited, cites}, Decoding.{Steps, is_close, is_compressed, word_spot, steps_in, decoding}}
 use Rattle.mm_verdict.specs.Language.SameToDecode.{IsSameLabel, labels_named, AreSameToDecode}

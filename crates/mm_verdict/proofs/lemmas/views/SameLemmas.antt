@@ -1,6 +1,6 @@
 -- Proofs that mean the same decode to the same.
-use Rattle.std.proofs.Common.{◌==◌, arith, ◌≡◌, ℕ, zero, suc, ◌+◌, false, not, cond, Option, Some, None, Result, Ok, Err, List, [], ◌∷◌, ◌++◌, map, refl, inl, inr, ◌⊎◌, slice_get, filter, bytes_eq}
-use Rattle.std.{proofs.{Common.{codes, length}, lemmas.{Grind.{common_steps}, Bool.{cases_Bool}}}, specs.{Option.{ok_or, option_map_or}, Result.{result_and}}}
+use Rattle.std.proofs.Common.{rules, ◌==◌, arith, ◌≡◌, ℕ, zero, suc, ◌+◌, false, not, cond, Option, Some, None, Result, Ok, Err, List, [], ◌∷◌, ◌++◌, map, refl, inl, inr, ◌⊎◌, slice_get, filter}
+use Rattle.std.{proofs.{Common.{bytes_eq, codes, length}, lemmas.{Grind.{common_steps}, Bool.{cases_Bool}}}, specs.{Option.{ok_or, option_map_or}, Result.{result_and}}}
 use Rattle.std.specs.List.{AllZip, AllByRecursion, range_with_len, before_first}
 use Rattle.mm_machine.specs.{declared.{ProofNumber.{ProofNumber, TheVariants.{P05, P06}}, Spot.{Spot}}, Language.Frame.{LabelMeaning, Hypothesis, Assertion, Inactive, Unknown, Setting, AreSamePairs}}
 use Rattle.mm_machine.specs.Language.{Expansion.{Step, Named, Saved, NotKnown}, SameProof.{AreSameMeaning, IsSameStep, IsSameDecoding}}
@@ -96,8 +96,7 @@ module _ (p q : Setting) where
   groups_same : (labels others : List Step) (close : Spot) (saves : ℕ) (gs : List Group) → AllZip IsBoth labels others → AreSame (in_order (readings_of_groups labels close saves gs)) (in_order (readings_of_groups others close saves gs))
   groups_same labels others close saves [] all = tt
   groups_same labels others close saves (g ∷ gs) all =
-      first_same _ _ _ _ _ (group_same labels others saves g.digits g.last all)
-      (groups_same labels others close (cond (option_map_or (λ (letter : Letter). letter.byte == 90) g.last false) (saves + 1) saves) gs all)
+      search (rules, groups_same labels others close (cond (option_map_or (λ (letter : Letter). letter.byte == 90) g.last false) (saves + 1) saves) gs all, first_same, group_same)
 
   hypothesis_both : (a b : List ℕ) → IsSameHypothesis p q a b → IsBoth (Named a) (Named b)
   hypothesis_both a b h = (rw (h.1, h.2) refl, inr (rw h.1 refl, rw h.2 refl))

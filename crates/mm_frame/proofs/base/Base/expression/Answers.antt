@@ -7,6 +7,3 @@ returns-then-is_shown-clause-symbols c names base is = grind (arith, common_step
 
 pub returns-then-is_shown-clause-numbered : goal.returns-then-is_shown-clause-numbered
 returns-then-is_shown-clause-numbered c names base is = grind (arith, common_steps, expression_numbered names base c.args.self.now.expressions c.args.i is.expressions) steps 200000
-
-pub returns-else-is_shown-clause-symbols : goal.returns-else-is_shown-clause-symbols
-returns-else-is_shown-clause-symbols c names base is = grind (arith, common_steps) steps 200000

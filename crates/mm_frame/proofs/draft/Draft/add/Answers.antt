@@ -1,4 +1,4 @@
-use Rattle.std.proofs.{Common.{ap, arith, is_none, ◌≡◌, true, ◌∙◌, sym, subst}, lemmas.{Grind.{common_steps}, Result.{on_ok_weaker}}}
+use Rattle.std.proofs.{Common.{ap, arith, is_none, ◌∙◌, sym, subst}, lemmas.{Grind.{common_steps}, Result.{on_ok_weaker}}}
 use Rattle.mm_statement.specs.Language.Statement.{kind_of}
 use Rattle.mm_frame.{specs.{Language.Sound.{sound_items}, Code.Numbers.{AreNameNumbers}}, proofs.lemmas.base.BaseLemmas.{sound_found_none, framed_parts}}
 use Rattle.mm_frame.proofs.draft.Draft.add.Goals as goal

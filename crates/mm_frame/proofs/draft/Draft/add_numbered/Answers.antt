@@ -1,6 +1,6 @@
-use Rattle.std.proofs.Common.{◌++◌, ◌∷◌, [], ◌∙◌, is_none, sym, subst}
+use Rattle.std.proofs.Common.{◌∙◌, is_none, sym, subst}
 use Rattle.mm_frame.specs.{Language.Sound.{sound_items}, Code.{KeptSymbols.{AreSymbolsOf}, KeptTables.{Knows}, Numbers.{AreNameNumbers}}}
-use Rattle.mm_frame.proofs.lemmas.base.{BaseLemmas.{kept_are_sound, sound_found_none, none_found}}
+use Rattle.mm_frame.proofs.lemmas.base.BaseLemmas.{kept_are_sound, sound_found_none, none_found}
 use Rattle.mm_frame.proofs.draft.Draft.add_numbered.Goals as goal
 
 pub returns : goal.returns

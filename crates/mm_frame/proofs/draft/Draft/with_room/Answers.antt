@@ -1,4 +1,4 @@
-use Rattle.std.proofs.Common.{ℕ, IfOk, List, [], sym, ap, ◌∙◌, subst}
+use Rattle.std.proofs.Common.{ℕ, IfOk, List, [], sym, subst}
 use Rattle.mm_frame.specs.Code.{KeptAssertions.{AreAssertions}, KeptBase.{IsPassed}}
 use Rattle.mm_frame.proofs.draft.Draft.with_room.Goals as goal
 

@@ -1,4 +1,4 @@
-use Rattle.std.{proofs.{Common.{rules, ◌≡◌, ap, ◌∙◌, sym, map, ◌++◌, ◌∷◌, [], length, get_or, slice_get}, lemmas.List.{length-map}}, specs.{Str.{bytes_eq}, List.{list_any}}}
+use Rattle.std.{proofs.{Common.{arith, rules, ◌≡◌, ap, ◌∙◌, sym, map, ◌++◌, ◌∷◌, [], get_or, slice_get}, lemmas.{Grind.{common_steps}, List.{length-map}}}, specs.{Str.{bytes_eq}, List.{list_any}}}
 use Rattle.mm_frame.proofs.{lemmas.{lists.Members.{get_join}, names.NumberLemmas.{inserted, any_by_keys}}, names.Names.add.Goals.{In_ok-insert}}
 use Rattle.mm_frame.proofs.names.Names.add.Goals as goal
 
@@ -12,9 +12,7 @@ more c =
     ap (map (λ key. key.items)) c.in_ok-insert.ensures.keys ∙ inserted keys c.in_ok-key.key name c.in_ok-key.ensures.items new ∙ ap (λ names. names ++ name ∷ []) is
 
 pub returns-clause-ok : goal.returns-clause-ok
-returns-clause-ok c =
-    let long = length-map c.self.inside.names.keys (λ key. key.items) in
-    (c.len-number.ensures.len ∙ sym long ∙ ap length (c.self.view_is ∙ c.in_ok-make_places.ensures), more c)
+returns-clause-ok c = grind (arith, common_steps, length-map c.self.inside.names.keys (λ key. key.items), more c) steps 200000
 
 pub invariant_of-self-2 : goal.invariant_of-self-2
 invariant_of-self-2 c = record {

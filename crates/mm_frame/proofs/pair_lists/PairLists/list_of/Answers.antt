@@ -1,5 +1,4 @@
-use Rattle.std.proofs.{Common.{arith, ℕ, [], Some, cond, nat_eq, List, take, drop, take-append-drop, append-nil, flat_map, sym, ap, subst, ◌∙◌}, lemmas.{Grind.{common_steps}, List.{take_rest}}}
-use Rattle.std.specs.HashMap.{get}
+use Rattle.std.{proofs.{Common.{ℕ, [], Some, cond, nat_eq, List, take, drop, take-append-drop, append-nil, flat_map, sym, ap, subst, ◌∙◌}, lemmas.List.{take_rest}}, specs.HashMap.{get}}
 use Rattle.mm_frame.specs.{Language.Framing.{active_pairs}, declared.pair_lists.PairLists.{PairLists}, Code.{KeptPairLists.{KeepsLists, IsList, pairs_among}, KeptSymbols.{expression_kept}}}
 use Rattle.mm_frame.proofs.lemmas.{lists.Members.{In, in_right}, pairs.{ActivePairLemmas.{pairs_at}, PairListLemmas.{made_one_more, whole_front, front_and_own, active_read}}}
 use Rattle.mm_machine.specs.Language.NumberedSymbols.{AreSamePairsRead}
@@ -39,6 +38,3 @@ returns-in-Some-clause-pairs c all before h a e m =
     let disjoints = c.args.disjoints.now in
     let front = c.count_to_last-count.ensures all before [] a (append-nil disjoints ∙ e) in
     subst (IsList all c.args.self.now c.in-Some.k) (whole_front before disjoints c.count_to_last-count.result h e front) (m c.count_to_last-count.result c.in-Some.k (sym c.made_for.ensures ∙ c.in-Some.is)).list
-
-pub returns-clause-kept : goal.returns-clause-kept
-returns-clause-kept c = grind (arith, common_steps)

@@ -1,5 +1,4 @@
-use Rattle.std.proofs.{Common.{arith, ℕ, ◌++◌, Some, cond, nat_eq, List, take, drop, take-append-drop, append_assoc, flat_map, sym, ap, subst, ◌∙◌}, lemmas.{Grind.{common_steps}, List.{take_rest}}}
-use Rattle.std.specs.HashMap.{get}
+use Rattle.std.{proofs.{Common.{ℕ, ◌++◌, Some, cond, nat_eq, List, take, drop, take-append-drop, append_assoc, flat_map, sym, ap, subst, ◌∙◌}, lemmas.List.{take_rest}}, specs.HashMap.{get}}
 use Rattle.mm_frame.specs.{Language.Framing.{active_pairs}, declared.pair_lists.PairLists.{PairLists}, Code.{KeptPairLists.{KeepsLists, pairs_among}, KeptSymbols.{expression_kept}}}
 use Rattle.mm_frame.proofs.lemmas.{lists.Members.{In, in_left, in_right}, pairs.{ActivePairLemmas.{pairs_at}, PairListLemmas.{made_one_more, front_and_more, active_read}}}
 use Rattle.mm_machine.specs.Language.NumberedSymbols.{AreSamePairsRead}
@@ -32,6 +31,3 @@ returns-clause-made c all before rest h a e f m =
     made_one_more all before c.first_list.new.self new count c.in_ok-k.k keeps (c.in_ok-base.ensures.made all before h a front m) f.within
     (returns-clause-pairs c all before rest h a e f m)
     (λ other. c.in_ok-insert.ensures.updates.0 other ∙ ap (λ w. cond (nat_eq count other) (Some c.in_ok-k.k) (get nat_eq w other)) c.in_ok-k.ensures.made)
-
-pub returns-clause-kept : goal.returns-clause-kept
-returns-clause-kept c = grind (arith, common_steps)

@@ -1,7 +1,7 @@
 use Rattle.std.{proofs.{lemmas.Grind.{common_steps}, Common.{◌≡◌, true, length, ◌∷◌, ◌++◌, [], ◌∙◌, ap, sym, subst, arith}}, specs.Option.{option_map}}
-use Rattle.mm_frame.proofs.lemmas.{faults.FoundFaults.{kept_next}, base.BaseLemmas.{rows_more, kept_are_sound, kept_count, sound_found_none, symbols_more, symbols_taken}}
-use Rattle.mm_frame.{proofs.lemmas.base.RowLemmas.{some_lent}, specs.{Language.{Base.{fault_by}, Sound.{sound_items}, Answering.{AreRows, IsLabelTold}}, Code.KeptActiveItems.{AreActiveKept}}}
-use Rattle.mm_frame.specs.Code.{KeptPairTable.{KnowsPairs}, KeptRows.{rows_of, fault_told}, KeptScope.{ScopeHolds, taken}, Numbers.{AreNameNumbers}}
+use Rattle.mm_frame.proofs.lemmas.{faults.FoundFaults.{kept_next}, base.{BaseLemmas.{rows_more, kept_are_sound, kept_count, sound_found_none, symbols_more, symbols_taken}, RowLemmas.{some_lent}}}
+use Rattle.mm_frame.specs.{Language.{Base.{fault_by}, Sound.{sound_items}, Answering.{AreRows, IsLabelTold}}, Code.{KeptActiveItems.{AreActiveKept}, KeptPairTable.{KnowsPairs}}}
+use Rattle.mm_frame.specs.Code.{KeptRows.{rows_of, fault_told}, KeptScope.{ScopeHolds, taken}}
 use Rattle.mm_frame.proofs.passed.Passed.follow.Goals as goal
 
 pub returns : goal.returns
@@ -32,7 +32,8 @@ returns c all said d told numbers kept =
             labelled = some_lent (λ label. label.now) c.label.result ∙ c.label.ensures.some;
             fault = c.told_fault.ensures ∙ ap (λ k. fault_by k (option_map (λ f. (f.word, f.number)) found)) kind ∙ ap (fault_by item.kind) told;
           }));
-      symbols = grind (arith, common_steps, symbols_more all before (taken flag item) c.args.self.now.expressions symbols d.symbols kept.numbered (symbols_taken all before item symbols flag own)) steps 200000;
+      symbols =
+          grind (arith, common_steps, symbols_more all before (taken flag item) c.args.self.now.expressions symbols d.symbols kept.numbered (symbols_taken all before item symbols flag own)) steps 200000;
       active = subst (λ w. AreActiveKept w c.add.new.self c.follow.new.self) more active;
       pair_table = subst (λ w. KnowsPairs all w c.follow_pairs.new.pairs) more pairs;
     }

@@ -1,7 +1,7 @@
 use Rattle.std.proofs.{Common.{refl, ◌≡◌, ℕ, IfOk, List, [], sym, ap, ◌∙◌, subst}, lemmas.List.Elements.{All-nil}}
 use Rattle.mm_machine.specs.{Language.{NumberedSymbols.{IsNumbered}, Names.{AreDistinct}}, declared.symbol.NumberedSymbol.{NumberedSymbol}}
-use Rattle.mm_frame.specs.{Language.Answering.{AreRows, IsLabelTold}, Code.{KeptActiveItems.{AreActiveKept}, KeptRows.{AreRowsKept, rows_of}, KeptScope.{ScopeHolds}}}
-use Rattle.mm_frame.{specs.Code.KeptSymbols.{AreSymbols}, proofs.lemmas.base.BaseLemmas.{rows_none}}
+use Rattle.mm_frame.specs.{Language.Answering.{AreRows, IsLabelTold}, Code.{KeptActiveItems.{AreActiveKept}, KeptRows.{AreRowsKept, rows_of}, KeptScope.{ScopeHolds}, KeptSymbols.{AreSymbols}}}
+use Rattle.mm_frame.proofs.lemmas.base.BaseLemmas.{rows_none}
 use Rattle.mm_frame.proofs.passed.Passed.with_room.Goals as goal
 
 pub returns : goal.returns

@@ -14,9 +14,3 @@ returns c =
 
 pub invariant_of-self-2 : goal.invariant_of-self-2
 invariant_of-self-2 c = grind (arith, elements)
-
-pub overflow_add-len : goal.overflow_add-len
-overflow_add-len c = grind (arith, elements)
-
-pub overflow_cast-len : goal.overflow_cast-len
-overflow_cast-len c = grind (arith, elements)

@@ -1,10 +1,6 @@
-use Rattle.std.proofs.Common.{◌<◌, ◌+◌, ◌*◌, length, refl, sym, ◌∙◌, ap, subst, arith, inl, inr, Contains}
+use Rattle.std.proofs.Common.{◌<◌, length, refl, sym, subst, arith, inl, inr, Contains}
 use Rattle.mm_machine.{specs.declared.apart.KnownChunk.{KnownChunk}, proofs.lemmas.{machine.SetLemmas.{known_later, changed_has}, lists.Members.{pushed}}}
 use Rattle.mm_machine.proofs.apart.KnownApart.keep.Goals as goal
-
-pub returns-then-chunk-eq0 : goal.returns-then-chunk-eq0
-returns-then-chunk-eq0 c active all knows apart =
-    c.in_ok-keep_first.ensures active all knows (λ n i. apart n (i.0, i.1, i.2, i.3 ∙ ap (λ a. 64 * a + i.0) (sym c.if-chunk-eq0.true)))
 
 pub returns-then-place-len : goal.returns-then-place-len
 returns-then-place-len c active all knows apart =

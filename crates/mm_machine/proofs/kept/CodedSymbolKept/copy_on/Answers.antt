@@ -1,5 +1,5 @@
-use Rattle.std.proofs.Common.{◌≡◌, min, arith, ◌∙◌}
-use Rattle.mm_machine.{specs.Language.NumberedSymbols.{by_code}, proofs.lemmas.machine.CopyLemmas.{copied_block, mapped_copy, source_stays}}
+use Rattle.std.proofs.{lemmas.Grind.{common_steps}, Common.{min, arith, ◌∙◌}}
+use Rattle.mm_machine.proofs.lemmas.machine.CopyLemmas.{copied_block, mapped_copy, source_stays}
 use Rattle.mm_machine.proofs.kept.CodedSymbolKept.copy_on.Goals as goal
 
 pub loop-n-preserved : goal.loop-n-preserved
@@ -11,6 +11,4 @@ loop-n-preserved c = record {
 }
 
 pub returns-clause-copied : goal.returns-clause-copied
-returns-clause-copied c =
-    let whole : min c.loop-n.n c.args.len ≡ c.args.len = omega arith in
-    mapped_copy by_code c.args.all.now c.args.all.now c.loop-n.all _ _ _ (rw whole at c.loop-n.invariant.so_far)
+returns-clause-copied c = grind (arith, common_steps, mapped_copy) steps 200000

@@ -8,6 +8,4 @@ returns-then-not-same c =
     (search rules, (λ e. c.if-not-same.ensures.1 (one.0 (same_part _ _ c.args.at c.args.from c.loop-n.n 1 c.args.len (omega arith) e))))
 
 pub loop-n-preserved : goal.loop-n-preserved
-loop-n-preserved c =
-    let one = same_one named_symbol c.args.one.now c.args.other.now _ _ _ _ (omega arith) c.index-one-at.is (omega arith) c.index-other-from.is in
-    same_more _ _ c.args.at c.args.from c.loop-n.n 1 c.loop-n.invariant (one.1 (c.if-not-same.ensures.0 (search rules)))
+loop-n-preserved c = search (rules, same_more, same_one)

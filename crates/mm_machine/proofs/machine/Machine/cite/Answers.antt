@@ -1,5 +1,5 @@
+use Rattle.std.proofs.lemmas.{Grind.{common_steps}, List.{length-map, length-drop, get_or-map, take-take, take_rest}}
 use Rattle.std.proofs.Common.{◌≡◌, ◌+◌, ◌-◌, ◌++◌, ◌∷◌, [], ◌≤◌, ◌<◌, ℕ, false, List, All, IfNone, None, length, map, take, drop, get_or, refl, sym, Vec, Global, ◌∙◌, ap, subst, arith, MatchOption}
-use Rattle.std.proofs.lemmas.List.{length-map, length-drop, get_or-map, take-take, take_rest}
 use Rattle.mm_machine.specs.Language.{Frame.{Symbol, Mandatory, Frame, HasVariable}, Typing.{IsTyped}, Substitution.{substituted}, Steps.{Cites}, CodeLists.{meant_pairs}, Faults.{last_entries}}
 use Rattle.mm_machine.specs.{Language.Lasting.{HoldsLasting, IsCited, IsPattern, cited_frame, lasting_at, lasting_of, pattern_symbols}, declared.machine.Machine.{Machine}}
 use Rattle.mm_machine.specs.declared.{gather.PairRoom.{PairRoom}, lasting.Pattern.{Pattern}, slots.Slot.{Slot}, pattern.{Entry.{Entry}, Given.{Given}}, taken.Taken.{Taken}}
@@ -109,9 +109,7 @@ gives g c =
 
 -- what is written back
 written : (g : _) (c : In_ok-number g) → take c.args.self.now.given.len (c.citing_fault.new.given ++ drop (length c.citing_fault.new.given) c.args.self.now.given.items) ≡ c.citing_fault.new.given
-written g c =
-    let old = c.args.self.now.given in
-    written_back old.len c.citing_fault.new.given old.items (omega (arith, old.ok)) (c.in_ok-number.ensures.count ∙ ap length c.deref_mut.ensures.value)
+written g c = grind (arith, common_steps, written_back) steps 200000
 
 -- the entries and the lasting expressions are as wanted
 are_taken : (g : _) (c : In_ok-number g) → place_is g c → AreTaken g.S.Symbol.means g.S.Listed.Symbol.means g.S.Kept.key_of (taken g c)

@@ -1,21 +1,14 @@
-use Rattle.std.proofs.Common.{rules, ◌≡◌, map, take, arith}
+use Rattle.std.proofs.{lemmas.Grind.{common_steps}, Common.{rules, ◌≡◌, map, take, arith}}
 use Rattle.mm_machine.proofs.{lemmas.machine.{LastingLemmas.{expressions_stay, patterns_kept}, RoomLemmas.{front_grown}}, machine.Machine.clear.Goals.{In_ok-stretch}}
 use Rattle.mm_machine.proofs.machine.Machine.clear.Goals as goal
 
 -- the symbols of the lasting expressions stay
 front : (g : _) (c : In_ok-stretch g) → take c.args.self.now.lasting.ground (map g.S.Symbol.means c.stretch.new.symbols.items)
     ≡ take c.args.self.now.lasting.ground (map g.S.Symbol.means c.args.self.now.symbols.items)
-front g c =
-    let old = c.args.self.now in
-    let grows = c.in_ok-stretch.ensures.grows in
-    front_grown g.S.Symbol.means old.symbols.items grows.0 c.stretch.new.symbols.items old.lasting.ground c.requires.below grows.1
+front g c = grind (arith, common_steps, front_grown) steps 200000
 
 pub returns-clause-lasting : goal.returns-clause-lasting
-returns-clause-lasting g c =
-    let m = g.S.Symbol.means in
-    let l = c.args.self.now.lasting in
-    expressions_stay l.ground (map m c.args.self.now.symbols.items) (map m c.stretch.new.symbols.items) (map m l.variables.all.items) l.slots.items l.patterns.items
-    (front g (goal.at.returns-clause-lasting g c).In_ok-stretch) c.requires.patterns
+returns-clause-lasting g c = search (rules, expressions_stay, front)
 
 pub returns-clause-whole : goal.returns-clause-whole
 returns-clause-whole g c =

@@ -1,4 +1,4 @@
-use Rattle.std.proofs.{Common.{◌≡◌, ◌-◌, ◌≤◌, ◌++◌, Bool, All, map, set, sym, length, take, drop, subst, arith, ◌∙◌, ap, ap₂}, lemmas.List.{length-map}}
+use Rattle.std.proofs.{lemmas.{Grind.{common_steps}, List.{length-map}}, Common.{◌≡◌, ◌-◌, ◌≤◌, ◌++◌, Bool, All, map, set, sym, length, take, drop, subst, arith, ◌∙◌, ap, ap₂}}
 use Rattle.mm_machine.{specs.Language.{Frame.{Mandatory}, Lasting.{IsPattern, lasting_at, pattern_symbols}}, proofs.lemmas.machine.LastingLemmas.{pattern_set, expression_set}}
 use Rattle.mm_machine.proofs.{lemmas.machine.RoomLemmas.{front_grown, put_behind, written_back}, machine.Machine.load.Goals.{In_ok-give_places}}
 use Rattle.mm_machine.proofs.machine.Machine.load.Goals as goal
@@ -19,9 +19,7 @@ behind g c =
 
 -- and is written back
 whole : (g : _) (c : In_ok-give_places g) → take c.stretch.new.symbols.len (c.put_expression.new.all ++ drop (length c.put_expression.new.all) c.stretch.new.symbols.items) ≡ c.put_expression.new.all
-whole g c =
-    let s = c.stretch.new.symbols in
-    written_back s.len c.put_expression.new.all s.items (omega (arith, s.ok)) (c.in_ok-put_expression.ensures.count ∙ ap length c.deref_mut.ensures.value)
+whole g c = grind (arith, common_steps, written_back) steps 200000
 
 -- it is as long as the expression
 long : (g : _) (c : In_ok-give_places g) → c.saturating_add-end.result - c.args.self.now.lasting.ground ≡ length c.args.expression.now

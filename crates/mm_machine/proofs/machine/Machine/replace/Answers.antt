@@ -1,4 +1,4 @@
-use Rattle.std.proofs.Common.{◌≡◌, ◌+◌, ◌-◌, ◌++◌, ◌∷◌, [], ◌≤◌, ℕ, length, map, take, drop, refl, sym, ◌∙◌, ap, subst, arith, slice_get, Vec, Global}
+use Rattle.std.proofs.Common.{rules, ◌≡◌, ◌+◌, ◌-◌, ◌++◌, ◌∷◌, [], ◌≤◌, ℕ, length, map, take, drop, refl, sym, ◌∙◌, ap, subst, arith, slice_get, Vec, Global}
 use Rattle.std.proofs.lemmas.List.{length-map, length-take, length-drop, take-take}
 use Rattle.mm_machine.{specs.{Language.Frame.{Symbol}, declared.{machine.Machine.{Machine}, pattern.{Entry.{Entry}, Given.{Given}}}}, proofs.lemmas.machine.RoomLemmas.{put_behind, written_back}}
 use Rattle.mm_machine.proofs.lemmas.machine.{LastingLemmas.{expressions_stay, patterns_kept}, StackLemmas.{ends_of, front_kept, replaced_by, whole_replaced}}
@@ -122,26 +122,10 @@ returns-clause-stack g c =
     (ap (λ k. take k (drop start (map m c.if-start-self.self.symbols.items))) long ∙ p.moved)
 
 pub returns-clause-saved : goal.returns-clause-saved
-returns-clause-saved g c =
-    let d = goal.at.returns-clause-saved g c in
-    let p = placed g d.Joined-start-self in
-    let m = g.S.Symbol.means in
-    let self = c.args.self.now in
-    let f = c.floor_of-floor.result in
-    let before = map m self.symbols.items in
-    rw p.saved (front_kept f before (map m c.if-start-self.self.symbols.items) self.saved.items (omega (arith, c.requires.room, c.floor_of-floor.ensures.within, length-map self.symbols.items m)) p.front
-    (ends_of self.kept f self.saved.items c.floor_of-floor.ensures.saved c.requires.whole.0.saved_within))
+returns-clause-saved g c = search (rules, ends_of, front_kept, length-map, placed)
 
 pub floor_of-floor-requires-clause-whole : goal.floor_of-floor-requires-clause-whole
-floor_of-floor-requires-clause-whole g c =
-    let whole = c.requires.whole.0 in
-    rw c.deref.ensures.value (record {
-      kept_within = whole.kept_within;
-      within = whole.within;
-      floors_within = whole.floors_within;
-      saved_within = λ k d l. absurd (omega (arith, l));
-      apart = whole.apart;
-    })
+floor_of-floor-requires-clause-whole g c = search rules
 
 pub returns-clause-lasting : goal.returns-clause-lasting
 returns-clause-lasting g c =

@@ -1,4 +1,5 @@
-use Rattle.std.proofs.{Common.{◌≡◌, ◌<◌, map, sym, ◌∙◌, ap, arith, Some, length, slice_get, slice_index}, lemmas.{List.{get_or_default, length-map}, Option.{slice_get_within, same_Some}}}
+use Rattle.std.proofs.lemmas.{Grind.{common_steps}, List.{get_or_default, length-map}, Option.{slice_get_within, same_Some}}
+use Rattle.std.proofs.Common.{◌≡◌, ◌<◌, map, sym, ◌∙◌, ap, arith, length, slice_get, slice_index}
 use Rattle.mm_machine.{specs.Language.Keys.{home, home_at}, proofs.lemmas.machine.{FlatLemmas.{mapped_get}, MarkLemmas.{marked_found}}}
 use Rattle.mm_machine.proofs.variables.Variables.find.Goals as goal
 
@@ -17,11 +18,7 @@ returns-then-place-len g c h =
     absurd (omega (arith, slice_get_within all (slice_index places (key y)) f.0 f.1, length-map self.all.items m, place, c.if-place-len.true, c.len-3.ensures, self.all.ok))
 
 pub returns-then-same : goal.returns-then-same
-returns-then-same g c =
-    let m = g.S.Symbol.means in
-    let all = c.args.self.now.all in
-    let within : c.index-place.result.now < length all.items = omega (arith, c.if-place-len.false, c.len-3.ensures, all.ok) in
-    mapped_get m all.items c.index-place.result.now c.index-x.result.now within c.index-x.ensures ∙ ap Some (c.same.ensures.0 c.if-same.true)
+returns-then-same g c = grind (arith, common_steps, mapped_get) steps 200000
 
 pub returns-then-home-at : goal.returns-then-home-at
 returns-then-home-at g c h =

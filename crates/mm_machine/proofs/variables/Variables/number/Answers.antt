@@ -1,13 +1,10 @@
-use Rattle.std.proofs.{Common.{◌≡◌, ◌++◌, ◌∷◌, [], map, sym, ◌∙◌, ap, length, subst, slice_get, slice_set}, lemmas.List.{length-map, map-append}}
+use Rattle.std.proofs.{Common.{arith, ◌≡◌, ◌++◌, ◌∷◌, [], map, sym, ◌∙◌, ap, length, subst, slice_set}, lemmas.{Grind.{common_steps}, List.{length-map, map-append}}}
 use Rattle.mm_machine.{specs.Language.Keys.{AreNumbered, home, home_at}, proofs.lemmas.machine.{ApartLemmas.{last_at}, MarkLemmas.{numbered_more}}}
 use Rattle.mm_machine.proofs.variables.Variables.number.Goals as goal
 
 -- the variables with one more
 grown : (g : _) (c : goal.In_ok-push g) → map g.S.Symbol.means c.push.new.self.items ≡ map g.S.Symbol.means c.args.self.now.all.items ++ g.S.Symbol.means c.args.symbol.now ∷ []
-grown g c =
-    let m = g.S.Symbol.means in
-    let all = c.args.self.now.all.items in
-    ap (map m) c.in_ok-push.ensures.items ∙ map-append m all (c.in_ok-copy.field-0 ∷ []) ∙ ap (λ w. map m all ++ w ∷ []) c.in_ok-copy.ensures
+grown g c = grind (arith, common_steps, map-append) steps 200000
 
 pub returns-clause-numbered : goal.returns-clause-numbered
 returns-clause-numbered g c =
@@ -22,10 +19,7 @@ returns-clause-numbered g c =
     (numbered_more g.S.Kept.key_of all places c.note.new.places.items y c.in_default.ensures (c.note.ensures ∙ ap (λ k. slice_set places k c.len-number.result) at ∙ ap (slice_set places (home_at g.S.Kept.key_of (length places) y)) count) c.requires)
 
 pub returns-clause-number : goal.returns-clause-number
-returns-clause-number g c =
-    let m = g.S.Symbol.means in
-    let all = c.args.self.now.all in
-    ap (λ w. slice_get w c.len-number.result) (grown g c) ∙ last_at (map m all.items) (m c.args.symbol.now) c.len-number.result (c.len-number.ensures ∙ all.ok.0 ∙ sym (length-map all.items m))
+returns-clause-number g c = grind (arith, common_steps, grown, last_at, length-map) steps 200000
 
 pub returns-clause-grows : goal.returns-clause-grows
 returns-clause-grows g c = (g.S.Symbol.means c.args.symbol.now ∷ [], grown g c)

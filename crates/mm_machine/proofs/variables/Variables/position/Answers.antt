@@ -1,4 +1,4 @@
-use Rattle.std.proofs.{Common.{◌≡◌, ◌<◌, length, map, sym, refl, ◌∙◌, ap, arith, Some}, lemmas.{Bool.{false≢true}, List.{length-map}}}
+use Rattle.std.proofs.{lemmas.{Grind.{common_steps}, Bool.{false≢true}, List.{length-map}}, Common.{◌≡◌, ◌<◌, length, map, sym, refl, ◌∙◌, arith}}
 use Rattle.mm_machine.proofs.lemmas.machine.{FlatLemmas.{mapped_get}, ApartLemmas.{each_more, each_all}}
 use Rattle.mm_machine.proofs.variables.Variables.position.Goals as goal
 
@@ -6,11 +6,7 @@ pub loop-n-init : goal.loop-n-init
 loop-n-init g c k v l at e = absurd (omega (arith, l))
 
 pub returns-then-same : goal.returns-then-same
-returns-then-same g c =
-    let m = g.S.Symbol.means in
-    let all = c.args.self.now.all in
-    let within : c.loop-n.n < length all.items = omega (arith, c.loop-n-test.true, c.len-n-end.ensures, all.ok) in
-    mapped_get m all.items c.loop-n.n c.index.result.now within c.index.ensures ∙ ap Some (c.same.ensures.0 c.if-same.true)
+returns-then-same g c = grind (arith, common_steps, mapped_get) steps 200000
 
 pub loop-n-preserved : goal.loop-n-preserved
 loop-n-preserved g c =

@@ -1,4 +1,4 @@
-use Rattle.std.proofs.{lemmas.{Grind.{common_steps}, List.{take_rest}}, Common.{◌≡◌, ◌≤◌, ◌+◌, ℕ, min, take, arith, rules}, Math.Seq.{take-add}, KnownBytes.{Appends-trans, Appends-kept}}
+use Rattle.std.proofs.{lemmas.{Grind.{common_steps}, List.{take_rest}}, Common.{◌≡◌, ◌≤◌, ◌+◌, ℕ, min, take, arith}, Math.Seq.{take-add}, KnownBytes.{Appends-trans, Appends-kept}}
 use Rattle.std.specs.Io.KnownBytes.{Appends}
 use Rattle.mm_script.proofs.stream.Writing.write_all.Goals.{in_default-via-in-Ok+else-n-gt0, in_default-via-in_default}
 use Rattle.mm_script.proofs.stream.Writing.write_all.Goals as goal
@@ -30,6 +30,3 @@ returns-in_default-clause-calls g c sound =
       | in_default-via-in_default w ↦ (at, Appends-kept _ _ _ _ out w.in_default.ensures.bytes, omega arith)
     ] in
     grind (arith, common_steps, counted_more c.args.self.now.calls c.loop-at.self.calls c.saturating_add-self.result k.0 k.1 c.saturating_add-self.ensures) steps 200000
-
-pub returns-then-self-clause-calls : goal.returns-then-self-clause-calls
-returns-then-self-clause-calls g c = search rules

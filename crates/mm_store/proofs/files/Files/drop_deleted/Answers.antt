@@ -7,9 +7,7 @@ pub unwrap-file-requires : goal.unwrap-file-requires
 unwrap-file-requires c = c.get_index_mut.ensures.found.1 (deleted_file c.self.inside c.args.number c.args.old c.self.invariant c.self.view_is c.requires)
 
 pub forget_deleted-requires : goal.forget_deleted-requires
-forget_deleted-requires c =
-    let file = lent c.self.inside c.args.number c.self.invariant c.get_index_mut.ensures.value c.unwrap-file.ensures in
-    record { parked = omega (arith, file.has.parked, deleted_from c.self.inside c.args.number c.args.old c.self.invariant c.self.view_is c.requires); room = file.has.room }
+forget_deleted-requires c = grind (arith, common_steps, deleted_from, lent) steps 200000
 
 pub invariant_of-self : goal.invariant_of-self
 invariant_of-self c =

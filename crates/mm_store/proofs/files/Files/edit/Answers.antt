@@ -4,9 +4,3 @@ use Rattle.mm_store.proofs.files.Files.edit.Goals as goal
 
 pub returns-clause-parked : goal.returns-clause-parked
 returns-clause-parked c = grind (arith, common_steps, in-Ok, in_default, parks_more) steps 200000
-
-pub returns-clause-no_file : goal.returns-clause-no_file
-returns-clause-no_file c = grind (arith, common_steps) steps 200000
-
-pub returns-clause-no_piece : goal.returns-clause-no_piece
-returns-clause-no_piece c = grind (arith, common_steps) steps 200000

@@ -28,9 +28,6 @@ loop-number-preserved c = record {
   spendable = c.in_default.ensures.spendable c.args.self.now c.loop-number.invariant.spendable;
 }
 
-pub returns-clause-ok : goal.returns-clause-ok
-returns-clause-ok c = grind (arith, common_steps) steps 200000
-
 pub returns-clause-reading : goal.returns-clause-reading
 returns-clause-reading c = subst (KeepsReading c.args.self.now) (sym c.restart_all.ensures) (reads_alike c.args.self.now c.loop-number.self c.loop-number.invariant.keys)
 

@@ -1,5 +1,5 @@
-use Rattle.std.proofs.lemmas.{Grind.{common_steps, elements}, Option.{slice_get-map, slice_get_past, slice_get_read}}
-use Rattle.std.{proofs.Common.{◌≡◌, List, Some, refl, sym, ap, ◌∙◌, length, Global, Vec, ℕ, slice_get, arith}, specs.Option.{option_map}}
+use Rattle.std.proofs.{lemmas.{Grind.{common_steps}, Option.{slice_get-map, slice_get_past, slice_get_read}}, Common.{◌≡◌, List, Some, refl, sym, ap, ◌∙◌, length, Global, Vec, ℕ, slice_get, arith}}
+use Rattle.std.specs.Option.{option_map}
 use Rattle.mm_store.specs.{declared.{file_text.FileText.{FileText}, files.Files.TheInside.{Inside}}, Language.FilesView.{FilesView, piece_view}, Code.Kept.{files_view, keyed_file}}
 use Rattle.mm_store.proofs.lemmas.files.ViewLemmas.{piece_at_key, held_there}
 use Rattle.mm_store.proofs.files.Files.key_at.Goals as goal
@@ -30,6 +30,3 @@ returns-clause-held c =
     let there = in_view c.self.inside c.args.file c.self.view_is c.as_slice.ensures.entries c.in_ok-file.ensures.entry in
     let h = c.in_ok-at.ensures.item.3 in
     held_there c.args.self.now c.args.file c.args.piece _ key c.holds_pieces.ensures there (slice_get_read keys (length keys) c.args.piece key refl h.0 (h.1 key))
-
-pub returns-in_err-file-clause-is : goal.returns-in_err-file-clause-is
-returns-in_err-file-clause-is c = grind (arith, elements)

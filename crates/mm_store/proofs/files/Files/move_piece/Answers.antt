@@ -6,10 +6,7 @@ pub unwrap-file-requires : goal.unwrap-file-requires
 unwrap-file-requires c = c.get_index_mut.ensures.found.1 (there_is c.self.inside c.args.number c.args.at c.self.view_is c.requires.there)
 
 pub move_key-requires : goal.move_key-requires
-move_key-requires c =
-    let place = lent_at c.self.inside c.args.number c.args.at c.self.invariant c.self.view_is c.requires.there c.get_index_mut.ensures.value c.unwrap-file.ensures in
-    let other = lent_at c.self.inside c.args.number c.args.to c.self.invariant c.self.view_is c.requires.there_too c.get_index_mut.ensures.value c.unwrap-file.ensures in
-    record { there = place.in_keys; there_too = other.in_keys; room = place.file.has.room }
+move_key-requires c = grind (arith, common_steps, lent_at) steps 200000
 
 pub invariant_of-self : goal.invariant_of-self
 invariant_of-self c =

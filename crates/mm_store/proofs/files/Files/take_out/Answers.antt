@@ -7,9 +7,7 @@ pub unwrap-file-requires : goal.unwrap-file-requires
 unwrap-file-requires c = c.get_index_mut.ensures.found.1 (there_is c.self.inside c.args.number c.args.at c.self.view_is c.requires)
 
 pub delete_key-old-requires : goal.delete_key-old-requires
-delete_key-old-requires c =
-    let place = lent_at c.self.inside c.args.number c.args.at c.self.invariant c.self.view_is c.requires c.get_index_mut.ensures.value c.unwrap-file.ensures in
-    record { there = place.in_keys; room = place.file.has.room }
+delete_key-old-requires c = grind (arith, common_steps, lent_at) steps 200000
 
 pub set_state-less-requires : goal.set_state-less-requires
 set_state-less-requires c =

@@ -1,4 +1,4 @@
-use Rattle.std.proofs.{lemmas.Grind.{common_steps}, Common.{subst, arith, rules}}
+use Rattle.std.proofs.{lemmas.Grind.{common_steps}, Common.{subst, arith}}
 use Rattle.mm_store.{specs.Language.Batches.{CanUndoAll}, proofs.lemmas.edits.BatchLemmas.{undo_last, undo_others, undone_last}}
 use Rattle.mm_store.proofs.files.Files.undo_all.Goals as goal
 
@@ -7,9 +7,3 @@ take_back-requires c = undo_last c.pop.new.self.items c.in-Some.undo c.loop-undo
 
 pub loop-undo-preserved : goal.loop-undo-preserved
 loop-undo-preserved c = grind (arith, common_steps, undone_last c.pop.new.self.items c.in-Some.undo c.loop-undo.self, undo_others) steps 200000
-
-pub returns : goal.returns
-returns c old spendable = grind (arith, common_steps) steps 200000
-
-pub loop-undo-init : goal.loop-undo-init
-loop-undo-init c = search rules

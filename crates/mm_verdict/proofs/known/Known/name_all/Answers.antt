@@ -1,7 +1,6 @@
-use Rattle.std.{proofs.{Common.{◌≡◌, [], ◌∷◌, ◌++◌, All, take, get_or, sym, ap, subst, arith}, lemmas.List.{take_all, take_more, Elements.{All-nil}}}, specs.List.{AllZip}}
+use Rattle.std.{proofs.{lemmas.List.{take_all, take_more}, Common.{◌≡◌, [], ◌∷◌, ◌++◌, All, take, get_or, sym, ap, subst, arith}}, specs.List.{AllZip}}
 use Rattle.mm_machine.specs.Language.{Lasting.{lasting_of}, NumberedSymbols.{by_code}}
-use Rattle.mm_verdict.{specs.Code.NamedItems.{HasItems, IsCitedOf, IsThere, IsUseIn, IsUseOf}, proofs.lemmas.machine.LoadedLemmas.{AreLoaded, loaded_places}}
-use Rattle.mm_verdict.proofs.lemmas.machine.NamedLemmas.{named_up, names_of, uses_more}
+use Rattle.mm_verdict.{specs.Code.NamedItems.{HasItems, IsThere, IsUseIn, IsUseOf}, proofs.lemmas.machine.{LoadedLemmas.{AreLoaded, loaded_places}, NamedLemmas.{named_up, names_of, uses_more}}}
 use Rattle.mm_frame.specs.declared.base.Resolved.TheVariants as answers
 use Rattle.mm_verdict.proofs.known.Known.name_all.Goals as goal
 
@@ -18,16 +17,6 @@ load_all-requires c =
         loaded = subst (AreLoaded code) (sym places.lasting.1) (loaded_places code (lasting_of by_code c.args.self.now.machine) places.lasting.0 places.lasting.2 c.requires.known.loaded);
       };
       labels = λ k d l. named_up code c.args.i _ _ (omega (arith, places.count)) (c.requires.labels k d l);
-    }
-
-pub loop-label-init : goal.loop-label-init
-loop-label-init c =
-    let P = IsCitedOf c.args.base.now (lasting_of by_code c.load_all.new.machine) in
-    record {
-      of_base = c.in_ok-load_all.ensures.items;
-      there = c.in_ok-load_all.ensures.there;
-      cited = subst (All P) (sym c.clear.ensures.items) (All-nil P);
-      stand = rw (c.in_ok-reserve.ensures.items, c.clear-2.ensures.items) tt;
     }
 
 pub name-requires : goal.name-requires
