@@ -1,5 +1,5 @@
 -- Files by number: their names; and what is reported of an item names one of them.
-use Rattle.std.proofs.{Common.{rules, ◌≡◌, ℕ, ◌<◌, List, [], Some, length, slice_get, sym, ap, ◌∙◌, subst, slice_index_or}, lemmas.Option.{slice_get-map, slice_get_within, get_or_from_slice_get}}
+use Rattle.std.proofs.{Common.{rules, ◌≡◌, ℕ, ◌<◌, List, [], Some, length, slice_get, sym, subst, slice_index_or}, lemmas.Option.{slice_get-map, slice_get_within, get_or_from_slice_get}}
 use Rattle.std.{proofs.lemmas.{List.{length-map}, Simd.{map-map}}, specs.Option.{option_map}}
 use Rattle.mm_keep.specs.{mm_store.Language.FilesView.{KeyedFile, FilesView, File, plain, plain_file}, mm_statement.Language.Database.{Located}, declared.finding.At.{At}}
 use Rattle.mm_keep.specs.Language.{Told.{Told, Incomplete, Wrong, Fault, IsRightlyTold}, WordPlaces.{HasPlace}}

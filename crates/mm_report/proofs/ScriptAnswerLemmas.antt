@@ -5,8 +5,8 @@ use Rattle.std.proofs.Common.{append-nil, take_all}
 use Rattle.mm_keep.specs.mm_store.{declared.edit.EditError.{EditError, TheVariants.{Memory}}, Language.{Answers.{IsEditError}, Batches.{IsBatchOf, IsRefusedAt}, Edits.{IsEditOf}, FilesView.{File}}}
 use Rattle.mm_keep.specs.{mm_text.Language.Asked.{Asked}, mm_statement.Language.{Database.{Located, IsDatabase}, Laws.{FilesHaveOneDatabase}}, mm_frame.Language.Base.{base_of}}
 use Rattle.mm_keep.specs.Language.{Laws.{IsOneList, OneFinding, OneListEach, OneListOfRuns, OneVerdict}, Runs.{AreRunsOf}, Sessions.{SessionView, HasAssertion, AreAxiomsOf, AreCitesOf, AreUsersOf}}
-use Rattle.mm_report.specs.Language.Answers.{AreAnswers, IsAnswer, IsAnswerOf, IsBatchAnswer, IsEditAnswer, IsFound, IsRunAnswer, IsUnknown, batch_refusal_line, numbers_listed, refusal_line}
-use Rattle.mm_report.{specs.Language.{Answers.{told_line}, Report.{names_of}, ScriptLaws.{AnswersBegin, OneScriptAnswer}, Scripting.{AreFirst}}, proofs.AnswerLemmas.{same_report}}
+use Rattle.mm_report.specs.Language.Answers.{AreAnswers, IsAnswer, IsAnswerOf, IsBatchAnswer, IsEditAnswer, IsFound, IsRunAnswer, IsUnknown, batch_refusal_line, numbers_listed, told_line}
+use Rattle.mm_report.{specs.Language.{Report.{names_of}, ScriptLaws.{AnswersBegin, OneScriptAnswer}, Scripting.{AreFirst}}, proofs.AnswerLemmas.{same_report}}
 use Rattle.mm_script.specs.declared.command.Question.{Question, TheVariants.{Verdict, Axioms, Cites, Users}}
 use Rattle.mm_script.specs.Language.{Script.{Command, Change, Batch, Report, Ask, EndsSo, Entry, command_of, commands_of, entries_bytes, HasEntries}, ReadingLaws.{DivisionsAgree, OneEnd, OneReading}}
 
@@ -134,6 +134,12 @@ same_answers laws s new copy (command ∷ commands) x y f g =
     let first = same_answer laws s f.1 g.1 command f.0 g.0 f.3 g.3 in
     let rest = same_answers laws g.1 new copy commands f.2 g.2 (subst (λ (next : SessionView). AreAnswers next commands f.2 new) first.1 f.4) g.4 in
     (f.5 ∙ (λ i. first.0 i ++ rest.0 i) ∙ sym g.5, rest.1)
+
+pub same_script : AnswerLaws → OneScriptAnswer
+same_script laws s new copy script x y end ended f g =
+    let read = laws.reading script f.entries g.entries f.rest g.rest f.reading g.reading in
+    let all = same_answers laws s new copy (commands_of g.entries) x y (subst (λ (es : List Entry). AreAnswers s (commands_of es) x new) read.0 f.answered) g.answered in
+    (all.0, all.1, laws.ends g.rest end ended (subst (λ (rest : List ℕ). EndsSo rest end) read.1 f.ends) g.ends)
 
 -- ---- the answers to the first commands
 

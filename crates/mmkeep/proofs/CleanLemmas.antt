@@ -1,8 +1,8 @@
 -- A report is clean: it has no line before its summary.
 use Rattle.std.proofs.lemmas.{Grind.{common_steps}, List.Sums.{sum_by-cons}}
-use Rattle.std.proofs.Common.{[], ◌≡◌, ℕ, Bool, false, cond, zero-add, IsTrue, ◌+◌, List, ◌∷◌, length, refl, sym, ◌∙◌, ap, arith, nat_eq, count_by, eqb-true, eq-eqb}
+use Rattle.std.proofs.Common.{[], ◌≡◌, ℕ, Bool, false, cond, zero-add, IsTrue, ◌+◌, List, ◌∷◌, length, refl, ◌∙◌, arith, nat_eq, count_by, eqb-true, eq-eqb}
 use Rattle.mm_report.specs.{mm_statement.Language.Item.{Said}, mm_keep.{declared.tally.Tally.{Tally}, Language.Findings.{counted}}}
-use Rattle.mm_report.specs.{mm_keep.Language.Told.{Told, Quiet, AnAxiom, Proved, Incomplete, Wrong, Fault, Counts, counts, is_incomplete, is_wrong, is_fault}, Language.Report.{lines}}
+use Rattle.mm_report.specs.{mm_keep.Language.Told.{Told, Quiet, AnAxiom, Proved, Incomplete, Wrong, Fault, counts, is_incomplete, is_wrong, is_fault}, Language.Report.{lines}}
 
 -- ---- counts
 

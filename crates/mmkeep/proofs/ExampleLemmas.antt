@@ -1,8 +1,7 @@
 -- The worked examples of commands, from those of mm_report.
 use Rattle.std.proofs.Common.{◌≡◌, ◌≢◌, ◌⊎◌, ℕ, Some, List, [], ◌∷◌, ◌++◌, refl, ap, ◌∙◌, inl, inr, arith, codes}
 use Rattle.mm_report.specs.{mm_keep.Language.{Sessions.{HasAssertion, AreAxiomsOf}, Told.{counts}}, Language.Answers.{IsFound, IsUnknown}}
-use Rattle.mm_report.specs.Language.{Examples.{unproved, proved, one_incomplete, five_commands, five_answers, AnswersFive, HasNoLine, HasThisReport, RestsOnOne}, Laws.{CleanIsDerived}}
-use Rattle.mm_report.specs.Language.Report.{lines, names_of, summary}
+use Rattle.mm_report.specs.Language.{Examples.{proved, one_incomplete, five_commands, five_answers, AnswersFive, HasNoLine, HasThisReport, RestsOnOne}, Laws.{CleanIsDerived}, Report.{summary}}
 use Rattle.mmkeep.specs.Language.{Performing.{AllInOrder}, Examples.{AxiomsLists, GivesWords, HasTheseWords, HasThisStatus, IsCutThere, IsInOrderThen, SessionEnds, VerifyFinds}}
 
 first_byte : List ℕ → ℕ

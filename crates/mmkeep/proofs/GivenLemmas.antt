@@ -1,5 +1,5 @@
 -- The names of loaded files: each that the source has is that of a file.
-use Rattle.std.proofs.{Common.{◌≡◌, ◌≢◌, ℕ, Bool, true, not, List, [], ◌∷◌, ◌++◌, Option, Some, None, sym, ◌∙◌, subst, refl, inl, inr, arith, All, Contains, position}, lemmas.Grind.{common_steps}}
+use Rattle.std.proofs.{Common.{◌≡◌, ◌≢◌, ℕ, Bool, true, not, List, [], ◌∷◌, ◌++◌, None, sym, subst, refl, inl, inr, arith, All, Contains, position}, lemmas.Grind.{common_steps}}
 use Rattle.std.{proofs.lemmas.{List.{Elements.{Contains-append_cases}, Sums.{prefix_len-le-length}}, Option.{none-some}, Slice.Eq.{bytes_eq-Decides}}, specs.Str.{bytes_eq}}
 use Rattle.mm_report.specs.{mm_store.Language.{FileFacts.{IsAdded}, FilesView.{File, file_number}}, mm_statement.Language.{Database.{Refers}, Item.{Missing}, Laws.{MissingAreNamed}}}
 use Rattle.mmkeep.{specs.{Code.Loaded.{HasFile}, Language.Loading.{AreLoaded, Bytes, GivesFile, GivesFiles, KnownFile, NoFile, Unknown}}, proofs.LoadLemmas.{only}}

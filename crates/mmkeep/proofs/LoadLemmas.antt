@@ -1,16 +1,16 @@
 -- Files that are loaded: none is parked, those that are there stay, and a walk goes on among them.
 use Rattle.std.proofs.Common.{rules, [], ◌≡◌, ◌≢◌, ℕ, ◌+◌, ◌-◌, ◌*◌, ◌<◌, ◌≤◌, Bool, true, false, append-nil, not, cond, List, ◌∷◌, ◌++◌, ◌⊎◌, append_assoc, get_or, length, length-append, Option}
-use Rattle.std.proofs.Common.{Some, None, Result, Ok, Err, OnOk, IfErr, IsErrAnd, IsErrOf, map, sym, ap, ◌∙◌, subst, subst₂, refl, inl, inr, ⊎_elim, arith, Contains, position}
-use Rattle.std.proofs.lemmas.{Grind.{common_steps}, Bool.{cases_eq, false≢true}, List.{length-map, length_push, nil_from_length, get_or-append-add, get_or_append_left, get_or_push}}
+use Rattle.std.proofs.{Common.{Some, None, Result, Ok, Err, OnOk, IfErr, IsErrAnd, IsErrOf, map, sym, ap, ◌∙◌, subst, subst₂, refl, inl, inr, arith, Contains, position}, lemmas.Grind.{common_steps}}
+use Rattle.std.proofs.lemmas.{Bool.{cases_eq, false≢true}, List.{length-map, length_push, nil_from_length, get_or-append-add, get_or_append_left, get_or_push}}
 use Rattle.std.proofs.lemmas.List.{Elements.{Contains-append_cases, Contains-append_right, Contains-push, Contains-push_cases}, Folds.{position_or_len_push}, Sums.{prefix_len-le-length}}
-use Rattle.std.{proofs.{lemmas.Slice.Eq.{bytes_eq-Decides}, KnownBytes.{Consumes-trans}}, specs.{Io.KnownBytes.{Consumes}, List.{position_or_len, sum_by}, Str.{bytes_eq}, Ordering.{nat_cmp}}}
+use Rattle.std.{proofs.lemmas.Slice.Eq.{bytes_eq-Decides}, specs.{Io.KnownBytes.{Consumes}, List.{position_or_len, sum_by}, Str.{bytes_eq}, Ordering.{nat_cmp}}}
 use Rattle.mm_report.specs.mm_store.{declared.{error.StoreError.{StoreError, TheVariants.{Memory as Lacking, NoTop}}, item.Item.{Item}}, Language.Answers.{IsExpansionError}}
-use Rattle.mm_report.specs.mm_store.Language.{FileFacts.{IsAdded, parked_in}, FilesView.{File, FileView, FilesView, file_number, no_files, number_of, plain}, Expansion.{Placed}, Holding.{HoldOneEach}}
+use Rattle.mm_report.specs.mm_store.Language.{FileFacts.{IsAdded, parked_in}, FilesView.{File, FileView, file_number, no_files, number_of}, Expansion.{Placed}, Holding.{HoldOneEach}}
 use Rattle.mm_report.specs.mm_store.Language.{Keyless.{bare, bare_file}, Pieces.{HeldPiece, parked_state}, Walking.{WalkView, Goes, IsWalk, GoesOn, HasReported, StandsBefore, FindsEnd, FindsMissing}}
-use Rattle.mm_report.specs.mm_script.{declared.read_stream.Reading.{Reading}, Language.Stream.{calls_left, cannot_read, unread}}
+use Rattle.mm_report.specs.mm_script.{declared.read_stream.Reading.{Reading}, Language.Stream.{calls_left, unread}}
 use Rattle.mm_report.specs.mm_statement.Language.Laws.{DatabasesHaveOneListOfNames, WalksTakeNames, ExpansionsTakeNames}
 use Rattle.mmkeep.specs.declared.{adding.FileError.{FileError}, unloaded.Unloaded.{Unloaded, TheVariants.{Input, Read, Memory}}}
-use Rattle.mmkeep.specs.Code.Loaded.{AddsIfOpened, AddsOpened, FindsNext, HasFile, KeepsFiles, Loads, StopsOpened, TakesFile, TakesTop, begins, takes, unloaded_by}
+use Rattle.mmkeep.specs.Code.Loaded.{AddsIfOpened, AddsOpened, FindsNext, HasFile, KeepsFiles, Loads, StopsOpened, TakesFile, TakesTop, begins, takes}
 use Rattle.mmkeep.specs.Language.Loading.{AddsFile, AreLoaded, Bytes, GivesFile, GivesFiles, IsFileError, IsUnloaded, KnownFile, NoFile, Opens, ReadsOn, StopsAt, StopsAtTop, StopsLoading, Unknown}
 use Rattle.mmkeep.specs.declared.adding.FileError.TheVariants as errors
 use Rattle.mm_report.specs.mm_store.Language.Walking as walking

@@ -1,7 +1,7 @@
 -- What a command has done, by what its parts have done.
-use Rattle.std.proofs.Common.{arith, ◌≡◌, ◌⊎◌, ◌↔◌, ◌∙◌, ℕ, Bool, true, false, IsTrue, List, [], length, Option, None, Some, Result, Ok, Err, IfErr, IfOk, inl, inr, refl, sym, subst}
-use Rattle.std.{proofs.{lemmas.{Grind.{common_steps}, Bool.{false≢true}, List.{length-map}}, KnownBytes.{Keeps-refl}}, specs.Io.KnownBytes.{Appends, Keeps, append_known}}
-use Rattle.std.specs.{Io.Buffered.{writer_buffer, writer_contents}, declared.io.buffered.BufWriter.{BufWriter}}
+use Rattle.std.proofs.Common.{arith, ◌≡◌, ◌⊎◌, ◌↔◌, ◌∙◌, ℕ, Bool, true, false, IsTrue, List, [], length, Option, None, Some, Result, Ok, Err, IfErr, IfOk, inl, inr, sym, subst}
+use Rattle.std.{proofs.{lemmas.{Grind.{common_steps}, Bool.{false≢true}, List.{length-map}}, KnownBytes.{Keeps-refl}}, specs.Io.{KnownBytes.{Appends, Keeps, append_known}, Buffered.{writer_contents}}}
+use Rattle.std.specs.declared.io.buffered.BufWriter.{BufWriter}
 use Rattle.mm_report.specs.mm_keep.{declared.tally.Tally.{Tally}, Language.{Findings.{counted}, Sessions.{SessionView, HasAssertion, IsTally}, Told.{Told, counts}}}
 use Rattle.mm_report.specs.{mm_script.{declared.{error.ScriptError.{ScriptError}, stream.Writing.{Writing}}, Language.Stream.{AppendsPart, gone_out, written}}, Language.Answers.{IsAnswer}}
 use Rattle.mm_report.specs.{Language.{Laws.{CleanIsDerived}, Report.{lines, names_of}}, mm_statement.Language.{Database.{Located}, Item.{Said}}, mm_frame.Language.Base.{base_of}}

@@ -1,5 +1,5 @@
 use Rattle.std.proofs.Common.{rules}
-use Rattle.mm_script.specs.{Language.Script.{Ask}, declared.command.Question.TheVariants.{Verdict, Axioms, Cites, Users}}
+use Rattle.mm_script.specs.declared.command.Question.TheVariants.{Axioms, Cites, Users}
 use Rattle.mm_report.proofs.AskedLemmas.{answered_stop}
 use Rattle.mm_report.proofs.answer.answer_question.Goals as goal
 

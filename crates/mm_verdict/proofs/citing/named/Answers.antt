@@ -1,4 +1,4 @@
-use Rattle.std.proofs.{lemmas.{Grind.{common_steps}, List.Folds.{list_any-append}}, Common.{◌∙◌, ◌||◌, ◌∷◌, [], ap, sym, arith, take, get_or, if◌then◌else◌, false, Some, Bool}, Math.Bool.{or-false}}
+use Rattle.std.proofs.{Common.{◌∙◌, ◌||◌, ◌∷◌, [], ap, sym, arith, take_all, take, get_or, if◌then◌else◌, false, Some, Bool}, lemmas.List.Folds.{list_any-append}, Math.Bool.{or-false}}
 use Rattle.mm_verdict.{specs.Code.Cited.{cited_item, is_item, is_listed, masked}, proofs.lemmas.machine.MarkedLabels.{masked_count, masked_next}}
 use Rattle.mm_frame.specs.declared.base.Resolved.{Resolved}
 use Rattle.mm_frame.specs.declared.base.Resolved.TheVariants as answers
@@ -8,7 +8,9 @@ pub loop-k-init : goal.loop-k-init
 loop-k-init c = c.forget.ensures
 
 pub returns : goal.returns
-returns c j e = grind (arith, common_steps, masked_count c.args.labels.now c.args.used.now) steps 200000
+returns c j e =
+    c.loop-k.invariant j e
+    ∙ ap (λ labels. is_listed labels j) (take_all c.loop-k.k (masked c.args.labels.now c.args.used.now) (omega (arith, c.loop-k-test.false, masked_count c.args.labels.now c.args.used.now)))
 
 pub loop-k-preserved : goal.loop-k-preserved
 loop-k-preserved c j e =

@@ -1,5 +1,4 @@
-use Rattle.std.proofs.{Common.{rules, arith, take}, lemmas.Grind.{common_steps}}
-use Rattle.mm_report.specs.mm_script.Language.Stream.{calls_left, unread}
+use Rattle.std.proofs.{Common.{rules, arith}, lemmas.Grind.{common_steps}}
 use Rattle.mmkeep.proofs.LoadLemmas.{read_on}
 use Rattle.mmkeep.proofs.adding.read_all.Goals as goal
 

@@ -1,5 +1,4 @@
 use Rattle.std.proofs.{Common.{arith}, lemmas.Grind.{common_steps}}
-use Rattle.mm_report.specs.mm_store.Language.FilesView.{plain}
 use Rattle.mmkeep.proofs.LoadLemmas.{stops_top, takes_top}
 use Rattle.mmkeep.proofs.loading.take_top.Goals as goal
 
