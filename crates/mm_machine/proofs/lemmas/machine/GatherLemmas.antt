@@ -2,7 +2,7 @@
 use Rattle.std.proofs.Common.{◌≡◌, ℕ, ◌+◌, ◌-◌, ◌<◌, Bool, true, Some, List, [], ◌∷◌, ◌++◌, length, take, drop, refl, sym, ◌∙◌, ap, subst, arith, inl, inr, ◌⊎◌, append_assoc, length-append, slice_get}
 use Rattle.std.proofs.{Common.{Contains}, lemmas.{Grind.{common_steps}, Bool.{false≢true}, Option.{slice_get_within, same_Some}, List.{drop_all, take_all, take_rest, take-append-drop}}}
 use Rattle.std.proofs.lemmas.List.Elements.{Contains-append_cases, Contains-append_left, Contains-append_right}
-use Rattle.mm_machine.specs.{Language.Frame.{Symbol, Mandatory}, declared.{pattern.Entry.{Entry}, sets.Chunk.{Chunk}}, Code.Flat.{IsEntryWithin}}
+use Rattle.mm_machine.specs.{Language.Frame.{Symbol, Mandatory}, declared.{pattern.Entry.{Entry}, sets.Chunk.{Chunk}}}
 use Rattle.mm_machine.{specs.Code.PairClause.{AreNumbersOf, GathersOne, GathersSymbols, GathersEntry, Gathers, IsIn, set_of}, proofs.lemmas.machine.ApartLemmas.{front_at, last_at, range_kept}}
 use Rattle.mm_machine.proofs.lemmas.lists.Members.{pushed, take_next}
 
@@ -110,10 +110,7 @@ pub gathers_step : (hypotheses : List Mandatory) (es : List (List Symbol)) (all 
     GathersEntry h.floating e (all ++ more) before after spans later → Gathers hypotheses es all before spans n → Gathers hypotheses es (all ++ more) after later (n + 1)
 gathers_step hypotheses es all more before after spans later n h e at_h at_e a f = record {
   count = ap length a.added ∙ length-append spans (a.span ∷ []) ∙ ap (λ k. k + 1) f.count;
-  within = λ k s at. elim (at_or_before k s at) [
-    | inl b ↦ (let w = f.within k s b.1 in (w.0, omega (arith, w.1, a.long)))
-    | inr b ↦ subst (IsEntryWithin (length after)) b.1 ((omega (arith, a.start, a.end, a.long), omega (arith, a.end)))
-  ];
+  within = grind (arith, common_steps, at_or_before) steps 200000;
   numbers = λ k i.
       let whole : after ≡ before ++ drop (length before) after = sym (take-append-drop (length before) after) ∙ ap (λ w. w ++ drop (length before) after) a.kept in
       elim (Contains-append_cases before (drop (length before) after) i.0 (subst (λ w. Contains w i.0) whole i.1)) [

@@ -1,5 +1,5 @@
 -- A table by the keys of a list's symbols.
-use Rattle.std.proofs.Common.{◌≡◌, ◌≢◌, ℕ, ◌+◌, ◌<◌, ◌≤◌, ◌⊎◌, Some, List, [], ◌∷◌, ◌++◌, length, get_or, refl, sym, ◌∙◌, ap, subst, arith, inl, inr, length-append, length-set, get_or-set_same}
+use Rattle.std.proofs.Common.{rules, ◌≡◌, ◌≢◌, ℕ, ◌+◌, ◌<◌, ◌≤◌, ◌⊎◌, Some, List, [], ◌∷◌, ◌++◌, length, get_or, refl, sym, ◌∙◌, ap, subst, arith, inl, inr, length-append, length-set, get_or-set_same}
 use Rattle.std.proofs.{Common.{get_or-set_other, slice_get, slice_index, slice_set, Contains}, Math.Decide.{ℕ_discrete}, lemmas.Option.{same_Some, slice_get_within}}
 use native.Mathlib.Decide.{dec_lt}
 use Rattle.mm_machine.{specs.Language.{Frame.{Symbol}, Keys.{AreKeyPlaces, AreNumbered, home_at}}, proofs.lemmas.{machine.ApartLemmas.{front_at, last_at}, lists.Members.{contains_at, contains_get}}}
@@ -32,10 +32,7 @@ pub numbered_more : (key : Symbol → ℕ) (all : List Symbol) (before after : L
 numbered_more key all before after v new e f =
     let count : length after ≡ length before = ap length e ∙ length-set before (home_at key (length before) v) (length all) in
     record {
-      once = λ m n w at_m at_n. elim (place m w at_m) [
-        | inl a ↦ elim (place n w at_n) [ inl b ↦ f.once m n w a b | inr b ↦ absurd (new (subst (λ x. Contains all x) (sym b.1) (contains_at all m w a))) ]
-        | inr a ↦ elim (place n w at_n) [ inl b ↦ absurd (new (subst (λ x. Contains all x) (sym a.1) (contains_at all n w b))) | inr b ↦ a.0 ∙ sym b.0 ]
-      ];
+      once = search (rules, contains_at, place);
       table = subst (λ k. AreKeyPlaces (home_at key k) (all ++ v ∷ []) after (length (all ++ v ∷ []))) (sym count)
           (subst (AreKeyPlaces (home_at key (length before)) (all ++ v ∷ []) after) (sym (length-append all (v ∷ [])))
           (marked_more (home_at key (length before)) (all ++ v ∷ []) before after (length all) v (last_at all v (length all) refl) e

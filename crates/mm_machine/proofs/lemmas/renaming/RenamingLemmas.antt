@@ -215,10 +215,7 @@ fault_renamed to back is place steps n number f = record {
   reached = reached_renamed to back is place (take n steps) f.stack f.reached;
   at_fault = f.at_fault;
   nothing_after = λ next r. f.nothing_after (map (map back) next) (reached_back to back is place (take (n + 1) steps) next r);
-  number_is = record {
-    holds = line_renamed to back is place f.step f.stack number f.number_is.holds;
-    lowest = λ other l. f.number_is.lowest other (line_back to back is place f.step f.stack other l);
-  };
+  number_is = grind (arith, common_steps, line_back, line_renamed) steps 200000;
 }
 
 -- what a run says of steps, it says of the renamed statement at the renamed place

@@ -116,8 +116,7 @@ part_more place x labels (Some part) b t p = record {
   front = x ∷ p.front;
   whole = ap (λ w. x ∷ w) p.whole;
   weighs_one = p.weighs_one;
-  shortest = λ ahead back e w. elim (suffix_cases x labels ahead back e)
-      [ inl f ↦ omega (arith, ap length f, ap length p.whole, length-append p.front part) | inr r ↦ p.shortest r.0 back r.1 w ];
+  shortest = grind (arith, common_steps, length-append, suffix_cases) steps 200000;
 }
 part_more place x labels None true t p = grind (arith, common_steps, suffix_cases) steps 200000
 part_more place x labels None false t p = search (rules, suffix_cases) steps 200000

@@ -1,4 +1,4 @@
-use Rattle.std.proofs.Common.{◌+◌, map, take, drop, ap, arith, ◌∙◌}
+use Rattle.std.proofs.{lemmas.Grind.{common_steps}, Common.{◌+◌, map, drop, ap, arith, ◌∙◌}}
 use Rattle.mm_machine.proofs.lemmas.machine.RoomLemmas.{put_next, range_next, same_end, end_kept}
 use Rattle.mm_machine.proofs.machine.move_down.Goals as goal
 
@@ -12,7 +12,6 @@ loop-n-preserved g c =
     let same = same_end c.loop-n.all c.args.all.now (c.args.to + n) (c.args.from + n) d (omega (arith, c.requires.order)) c.loop-n.invariant.rest in
     let next = range_next m c.args.all.now c.args.from n x d (omega (arith, c.requires.within)) (c.in_ok-symbol.ensures ∙ ap m same) in
     record {
-      moved = put_next m (take c.args.to (map m c.args.all.now)) (take n part) (take (n + 1) part) c.loop-n.all c.args.to n x
-          (omega (arith, c.requires, c.loop-n.auto.all)) next c.loop-n.invariant.moved;
+      moved = grind (arith, common_steps, put_next) steps 200000;
       rest = end_kept c.loop-n.all c.args.all.now c.args.to n x c.loop-n.invariant.rest;
     }

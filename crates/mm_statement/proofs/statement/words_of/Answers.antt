@@ -1,4 +1,4 @@
-use Rattle.std.proofs.{lemmas.Grind.{common_steps}, Common.{◌-◌, drop, arith, length-take, length-drop}}
+use Rattle.std.proofs.{lemmas.Grind.{common_steps}, Common.{arith, length-take, length-drop}}
 use Rattle.mm_statement.proofs.PieceLemmas.{has_words, ends_within, has_one, same_item, said_is}
 use Rattle.mm_statement.proofs.statement.words_of.Goals as goal
 
@@ -13,26 +13,7 @@ returns c =
     let r = c.requires in
     let words = c.new.ensures.only r.words (has_words c.args.files.now c.args.item.now c.piece.result.now r c.piece.ensures.text) in
     record {
-      words = record {
-        same_text = c.new.ensures.text;
-        has_words = c.new.ensures.words;
-        one = has_one c.args.files.now c.args.item.now c.piece.result.now c.requires c.piece.ensures.text c.new.result.words c.new.ensures.only;
-        few = omega (
-          arith,
-          c.new.ensures.few,
-          c.piece.ensures.small,
-          length-take (c.args.item.now.end - c.args.item.now.start) (drop c.args.item.now.start c.piece.result.now),
-          length-drop c.args.item.now.start c.piece.result.now,
-        );
-        some = c.new.ensures.some;
-        bytes = omega (
-          arith,
-          c.new.ensures.bytes,
-          c.piece.ensures.small,
-          length-take (c.args.item.now.end - c.args.item.now.start) (drop c.args.item.now.start c.piece.result.now),
-          length-drop c.args.item.now.start c.piece.result.now,
-        );
-      };
+      words = grind (arith, common_steps, has_one, has_words, length-drop, length-take) steps 200000;
       says = record { read = r; is = same_item c.args.files.now c.args.item.now c.piece.result.now r c.piece.ensures.text c.new.result.words words };
       only = λ said says. said_is c.args.files.now c.args.item.now c.piece.result.now c.piece.ensures.text c.new.result.words c.new.ensures.only said says;
     }

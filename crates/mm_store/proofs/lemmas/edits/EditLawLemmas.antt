@@ -1,8 +1,7 @@
 -- Edits over files without keys: what they leave as it was, and what reverses them.
+use Rattle.std.proofs.Common.{rules, ◌≡◌, ◌≢◌, ℕ, suc, ◌+◌, ◌≤◌, List, [], ◌∷◌, ◌++◌, Some, length, map, get_or, set, refl, sym, ap, ◌∙◌, append_assoc, arith, length-append, slice_get, length-set}
 use Rattle.std.proofs.lemmas.{Grind.{common_steps}, List.{set-set, Edits.{get_or-insert_at, length-insert, length-remove}, Folds.{position_or_len-set}, Sums.{sum_by-insert, sum_by-remove}}}
-use Rattle.std.proofs.lemmas.Option.{get_or_from_slice_get, none-some, same_Some}
-use Rattle.std.proofs.Common.{◌≡◌, ◌≢◌, ℕ, suc, ◌+◌, ◌≤◌, List, [], ◌∷◌, ◌++◌, Some, length, map, get_or, set, refl, sym, ap, ◌∙◌, append_assoc, arith, length-append, slice_get, length-set}
-use Rattle.std.{proofs.Math.Seq.{map-set_same}, specs.{List.{sum_by, insert, remove}, Str.{bytes_eq}}}
+use Rattle.std.{proofs.{lemmas.Option.{get_or_from_slice_get, none-some, same_Some}, Math.Seq.{map-set_same}}, specs.{List.{sum_by, insert, remove}, Str.{bytes_eq}}}
 use Rattle.mm_text.specs.Language.{Cut.{ended}, Asked.{Asked, Insert, Replace, Delete, Move}}
 use Rattle.mm_store.specs.Language.{FilesView.{File, file_number, find_file, bytes_of, text_of}, Edits.{edited, with_members, IsEditOf}}
 use Rattle.mm_store.proofs.lemmas.files.ListLemmas.{insert_removed, remove_inserted, size_is}
@@ -111,10 +110,8 @@ pub insert_reversed : (name text : List ℕ) (at : ℕ) (files between : List Fi
 insert_reversed name text at files between is = record {
   number = is.number;
   file = changed (Insert name at text) files between is;
-  placed = record {
-    file_there = record { named = number_kept (Insert name at text) files between is name ∙ is.placed.file_there.named; there = changed_there (Insert name at text) files between is };
-    among = omega (arith, length-insert is.file.pieces at (ended text) is.placed.among, is.placed.among);
-  };
+  placed =
+      grind (arith, common_steps, changed_there (Insert name at text) files between is, length-insert is.file.pieces at (ended text) is.placed.among, number_kept (Insert name at text) files between is name) steps 200000;
   one_unit = tt;
   is_after = given_back (Insert name at text) files between is (remove (insert is.file.pieces at (ended text)) at) (remove_inserted is.file.pieces at (ended text) is.placed.among);
   within = omega (arith, is.within, bytes_before (Insert name at text) files between is, sum_by-insert length is.file.pieces at (ended text));
@@ -132,13 +129,9 @@ move_reversed name at to files between is =
     record {
       number = is.number;
       file = changed (Move name at to) files between is;
-      placed = record {
-        file_there = record { named = number_kept (Move name at to) files between is name ∙ is.placed.file_there.named; there = changed_there (Move name at to) files between is };
-        among = (omega (arith, long, le), omega (arith, long, short, is.placed.among.0));
-      };
+      placed = grind (arith, common_steps, changed_there (Move name at to) files between is, number_kept (Move name at to) files between is name) steps 200000;
       one_unit = tt;
-      is_after = given_back (Move name at to) files between is (insert (remove (insert rest to old) to) at (get_or (insert rest to old) to []))
-          (ap (λ x. insert (remove (insert rest to old) to) at x) (get_or-insert_at rest to old [] le) ∙ ap (λ xs. insert xs at old) (remove_inserted rest to old le) ∙ insert_removed pieces at [] is.placed.among.0);
+      is_after = search (rules, get_or-insert_at, given_back, insert_removed, remove_inserted);
       within = omega (arith, is.within, bytes_before (Move name at to) files between is, sum_by-insert length rest to old, sum_by-remove length pieces at [] is.placed.among.0);
     }
 

@@ -1,6 +1,6 @@
 -- How a walk goes on, step by step.
-use Rattle.std.proofs.{Common.{◌≡◌, ◌≢◌, ℕ, true, false, Some, None, List, [], ◌∷◌, ◌++◌, map, refl, sym, ap, ◌∙◌, subst, append_assoc, append-nil, Contains, ◌⊎◌, inl, inr}, lemmas.Bool.{false≢true}}
-use Rattle.std.{proofs.lemmas.{List.Elements.{Contains-push_cases, All-from_recursion, recursion_from_All}, Option.{none-some}}, specs.List.{AllByRecursion}}
+use Rattle.std.proofs.Common.{arith, ◌≡◌, ◌≢◌, ℕ, true, false, Some, None, List, [], ◌∷◌, ◌++◌, map, refl, sym, ap, ◌∙◌, subst, append_assoc, append-nil, Contains, ◌⊎◌, inl, inr}
+use Rattle.std.{proofs.lemmas.{Grind.{common_steps}, Bool.{false≢true}, List.Elements.{Contains-push_cases, All-from_recursion, recursion_from_All}, Option.{none-some}}, specs.List.{AllByRecursion}}
 use Rattle.mm_store.specs.{declared.{item.{Item.{Item}, ItemKind.TheVariants.{Missing}}, walk.PlacedPiece.{PlacedPiece}}, Language.FilesView.{FileView, number_of}}
 use Rattle.mm_store.specs.Language.Expansion.{Placed, IsInclusion, placed_item}
 use Rattle.mm_store.specs.{Language.Walking.{WalkView, ArePending, Goes, IsWalk, HasReported, StandsBefore, MissNothing, MissOnlyTold, GoesOn, FindsMissing, FindsEnd}, Code.Gains.{HoldUnits}}
@@ -181,13 +181,7 @@ module _ (files : List FileView) (top : List ℕ) (items : List Item) (first now
             taken = g.taken;
           };
           part = t.includes.part;
-          stands = record {
-            later = b.later ++ b.outer;
-            are_pending = subst (ArePending files now.levels) joined is.are_pending;
-            is_inclusion = t.includes.is_inclusion;
-            new = λ known. t.fresh (subst (Contains now.names) t.includes.is_name known);
-            is_next = next_here files now.levels t.front t.level t.piece t.includes.part t.is_here t.includes.are_parts;
-          };
+          stands = grind (arith, common_steps, next_here files now.levels t.front t.level t.piece t.includes.part t.is_here t.includes.are_parts) steps 200000;
           is_name = t.includes.is_name;
           none = t.none;
           told = refl;

@@ -1,7 +1,7 @@
 -- What a file more makes of the files.
-use Rattle.std.proofs.Common.{rules, ◌≡◌, ◌≢◌, is_some, true, ℕ, suc, ◌+◌, ◌≤◌, List, [], ◌∷◌, ◌++◌, Option, None, length, map, refl, sym, ap, ◌∙◌, subst, arith, length-append, Global, Vec, All}
-use Rattle.std.proofs.{Common.{position, Bool, Result, Ok}, lemmas.{Grind.{common_steps}, Bool.Decides.{nat_tests}, List.{length-map, map-append, Elements.{All-nil}, Sums.{sum_by-cons}}}}
-use Rattle.std.specs.{Result.{OnOk}, List.{position_or_len, concat}, Map.{keys_of, lookup}}
+use Rattle.std.proofs.Common.{rules, ◌≡◌, ◌≢◌, is_some, true, ℕ, suc, ◌+◌, ◌≤◌, List, [], ◌∷◌, ◌++◌, Option, None, length, map, refl, ap, ◌∙◌, subst, arith, length-append, Global, Vec, All, position}
+use Rattle.std.{proofs.{Common.{Bool, Result, Ok}, lemmas.{Grind.{common_steps}, Bool.Decides.{nat_tests}, List.{length-map, map-append, Elements.{All-nil}, Sums.{sum_by-cons}}}}, specs.Result.{OnOk}}
+use Rattle.std.specs.{List.{position_or_len, concat}, Map.{keys_of, lookup}}
 use Rattle.mm_text.specs.Language.{Cut.{ArePieces}, Reading.{HasWords}}
 use Rattle.mm_store.specs.Code.{Inside.{CanBeKept, ArePut}, Starts.{HasStarts}, Room.{HasRoom}}
 use Rattle.mm_store.specs.{Code.Kept.{files_view, keyed_file, times, places, standing_count, deletions, IsRoomy, HaveRoom, HaveStarts, AreFilesKept}, declared.file_text.FileText.{FileText}}
@@ -81,13 +81,9 @@ module _ (inside : Inside) (kept : AreFilesKept inside) (e : Vec ℕ Global × F
       let none = kept.known (length es) (omega arith) in
       record {
         once = λ q. ap (λ es. places q (map keyed_file es)) is ∙ omega (arith, places_more e q es, kept.once q, put_stand p now texts e.1.keys.items put q, ap (λ m. standing_count (finite.get m q)) pieces);
-        room = subst (λ m. HaveRoom m 0 after.files.entries) (sym pieces) (subst (HaveRoom now 0) (sym is)
-            (room_more now e 0 es (let at : length es ≡ 0 + length es = omega arith in subst (λ n. IsRoomy now n e.1) at
-            (record { parked = deleted ∙ sym none ∙ sym (same (length es)); room = room })) (room_same p now 0 es (λ m lt. same m) kept.room)));
+        room = search (rules, room_more, room_same);
         known = λ m le. ap (deletions m) pieces ∙ same m ∙ kept.known m (omega (arith, le, ap length is, length-append es (e ∷ [])));
-        starts = subst (λ files. HaveStarts files after.files.entries) (sym plain_is) (subst (HaveStarts
-            (map (plain_file p) (map keyed_file es) ++ new_file ∷ [])) (sym is) (starts_more new_file e (map (plain_file p) (map keyed_file es)) es starts tail
-            kept.starts));
+        starts = grind (arith, common_steps, starts_more new_file e (map (plain_file p) (map keyed_file es)) es starts tail kept.starts) steps 200000;
         counted = omega (arith, counted, kept.counted, ap bytes_of plain_is, bytes_more (map (plain_file p) (map keyed_file es)) new_file);
         within = within;
       }

@@ -68,16 +68,7 @@ stands_kept files file walk part stands =
       are_pending = pending_kept files file walk.levels (part ∷ stands.later) stands.are_pending;
       is_inclusion = stands.is_inclusion;
       new = stands.new;
-      is_next = record {
-        outer = next.outer;
-        innermost = next.innermost;
-        last = next.last;
-        file = next.file;
-        there = file_kept files file next.innermost.file next.file next.there;
-        piece = next.piece;
-        is_piece = next.is_piece;
-        are_parts = next.are_parts;
-      };
+      is_next = grind (arith, common_steps, file_kept files file next.innermost.file next.file next.there) steps 200000;
     }
 
 -- a walk goes on among more files

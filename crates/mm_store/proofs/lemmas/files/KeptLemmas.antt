@@ -1,11 +1,9 @@
 -- The files after a change of the keys of one file and of the pieces.
-use Rattle.std.proofs.{Common.{◌+◌, ◌≡◌, ◌≢◌, ℕ, suc, ◌<◌, ◌≤◌, List, ◌∷◌, length, map, refl, sym, ap, ◌∙◌, subst, arith, Global, Vec, []}, lemmas.{Grind.{common_steps}, Bool.{cases_eq}}}
-use Rattle.std.proofs.lemmas.List.{length-map}
+use Rattle.std.proofs.{Common.{◌+◌, ◌≡◌, ℕ, suc, ◌<◌, ◌≤◌, List, ◌∷◌, length, map, refl, sym, ap, ◌∙◌, subst, arith, Global, Vec}, lemmas.{Grind.{common_steps}, Bool.{cases_eq}, List.{length-map}}}
 use Rattle.mm_store.proofs.lemmas.{files.{EntryLemmas.{view_set, room_set, room_same, starts_set, tail_at}, FileLemmas.{IsFile}}, edits.StepLemmas.{Step, settled_here, step_bytes}}
 use Rattle.mm_store.specs.{declared.{file_text.FileText.{FileText}, files.Files.TheInside.{Inside}}, Code.Starts.{HasKeys, HasStarts}}
-use Rattle.mm_store.specs.{Code.Kept.{files_view, keyed_file, places, standing_count, deletions, HaveRoom, HaveStarts, AreFilesKept}, Language.FilesView.{FilesView, plain, plain_file, bytes_of}}
+use Rattle.mm_store.specs.{Code.Kept.{files_view, keyed_file, places, standing_count, deletions, AreFilesKept}, Language.FilesView.{FilesView, plain, plain_file, bytes_of}}
 use Rattle.mm_store.specs.Language.{Pieces.{Deleted, text_under, Pieces, IsParked}, Undoing.{with_keys}}
-use Rattle.mm_text.specs.Language.Reading.{HasWords}
 use Rattle.indexmap.specs.IndexMap.{set_value_at, with_value_at}
 use Rattle.std.specs.FinMap as finite
 
@@ -31,14 +29,9 @@ module _ {inside : Inside} {n : ℕ} {v w : FileText} {keys : List ℕ} (file : 
       let starts = subst (λ ks. HasStarts (map (text_under p) ks) w) has.items (has.starts file.starts) in
       record {
         once = λ q. ap (λ (view : FilesView). places q view.keyed) (view_after refl) ∙ step.once q ∙ ap (λ m. standing_count (finite.get m q)) (sym pieces);
-        room = subst (λ m. HaveRoom m 0 (set_value_at es n w)) (sym pieces)
-            (room_set p now 0 es n n w (omega arith) step.others (record { parked = omega (arith, deleted, file.has.parked, step.here); room = has.room }) kept.room);
-        known = λ m le.
-            let differs : m ≢ n = λ same. omega (arith, same, le, length_set es n w, step.file, length-map es (keyed_file {Y = Global})) in
-            ap (deletions m) pieces ∙ step.others m differs ∙ kept.known m (omega (arith, le, length_set es n w));
-        starts = subst (λ gs. HaveStarts gs (set_value_at es n w)) (sym (files ∙ step.means))
-            (starts_set (plain (files_view inside)) es n w (map (text_under p) keys) kept.starts starts
-            (subst (λ (t : Vec ℕ Global). HasWords t.items []) (sym has.tail) (tail_at (plain (files_view inside)) es n v kept.starts file.here)));
+        room = grind (arith, common_steps, room_set) steps 200000;
+        known = grind (arith, common_steps, length-map es (keyed_file {Y = Global}), length_set es n w) steps 200000;
+        starts = grind (arith, common_steps, starts_set, tail_at) steps 200000;
         counted = omega (arith, counted, kept.counted, step_bytes step, ap bytes_of files);
         within = within;
       }

@@ -1,5 +1,5 @@
-use Rattle.std.proofs.{Common.{◌≡◌, ℕ, ◌+◌, ◌-◌, ◌*◌, ◌<◌, [], ◌∷◌, ◌++◌, length, take, drop, get_or, sym, ap, ◌∙◌, subst, arith, length-append}, Math.Seq.{take-add}}
-use Rattle.mm_store.{specs.{declared.line_feeds.Lines.{Lines}, Code.Lines.{AreLines}}, proofs.lemmas.places.PlaceLemmas.{each_more}}
+use Rattle.std.proofs.{Common.{rules, ◌≡◌, ◌+◌, ◌-◌, ◌*◌, [], ◌∷◌, ◌++◌, length, take, drop, sym, ap, ◌∙◌, subst, arith, length-append}, Math.Seq.{take-add}}
+use Rattle.mm_store.{specs.Code.Lines.{AreLines}, proofs.lemmas.places.PlaceLemmas.{each_more}}
 use Rattle.mm_store.proofs.line_feeds.marks.Goals as goal
 
 pub loop-number-preserved : goal.loop-number-preserved
@@ -15,6 +15,5 @@ loop-number-preserved c =
     record {
       lines = lines;
       many = omega (arith, ap length c.in_ok-push.ensures.items, length-append marks (c.then-lines.result ∷ []), c.loop-number.invariant.many);
-      each = subst (λ ms. (k : ℕ) (d : Lines) → k < n + 1 → AreLines (take ((k + 1) * 1024) text) (get_or ms k d)) (sym c.in_ok-push.ensures.items)
-          (each_more (λ k l. AreLines (take ((k + 1) * 1024) text) l) marks c.then-lines.result n c.loop-number.invariant.many c.loop-number.invariant.each lines);
+      each = search (rules, each_more);
     }

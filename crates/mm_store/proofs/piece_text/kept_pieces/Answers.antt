@@ -1,4 +1,4 @@
-use Rattle.std.proofs.{Common.{◌≡◌, [], ◌∷◌, ◌++◌, All, map, length, drop, sym, ap, ◌∙◌, subst, append_assoc, arith}, Math.Seq.{drop-append_seam}, lemmas.List.{map-append}}
+use Rattle.std.proofs.{Common.{◌≡◌, [], ◌∷◌, ◌++◌, All, length, drop, sym, ap, ◌∙◌, subst, append_assoc, arith}, Math.Seq.{drop-append_seam}, lemmas.List.{map-append}}
 use Rattle.std.{proofs.lemmas.{List.Elements.{All-nil, All-cons, All-append, All-drop}, Grind.{common_steps}}, specs.Vec.Iter.{into_iter_items}}
 use Rattle.mm_text.specs.{declared.pieces.DividedPiece.{DividedPiece}, Language.Part.{HasOwnParts}}
 use Rattle.mm_store.specs.{declared.piece_text.PieceText.{PieceText}, Code.Inside.{IsPieceKept}}
@@ -23,7 +23,6 @@ loop-piece-preserved c =
     record {
       rest = append_assoc at.yielded (piece ∷ []) _ ∙ rw (← c.in-Some.ensures.steps.0) at.invariant.rest;
       many = grind (arith, common_steps) steps 200000;
-      texts = ap (map (λ piece. piece.text)) pushed ∙ map-append (λ piece. piece.text) at.kept.items (kept ∷ []) ∙ ap (λ ts. ts ++ kept.text ∷ []) at.invariant.texts
-          ∙ ap (λ t. map (λ piece. piece.text) at.yielded ++ t ∷ []) c.in_ok-kept_piece.ensures.text ∙ sym (map-append (λ piece. piece.text) at.yielded (piece ∷ []));
+      texts = grind (arith, common_steps, map-append) steps 200000;
       each = subst (All IsPieceKept) (sym pushed) (All-append IsPieceKept at.kept.items (kept ∷ []) at.invariant.each (All-cons IsPieceKept kept [] c.in_ok-kept_piece.ensures.kept (All-nil IsPieceKept)));
     }

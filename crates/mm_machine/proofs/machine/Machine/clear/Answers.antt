@@ -21,8 +21,7 @@ returns-clause-whole g c =
       record {
         below = omega (arith, c.saturating_add.ensures, long, s.ok, s.small);
         numbered = c.requires.numbered;
-        patterns = patterns_kept l.ground (map m c.args.self.now.symbols.items) (map m s.items) (map m l.variables.all.items) l.slots.items l.patterns.items
-            (front g (goal.at.returns-clause-whole g c).In_ok-stretch) c.requires.patterns;
+        patterns = search (rules, front, patterns_kept);
         given = c.requires.given;
       },
       omega arith,

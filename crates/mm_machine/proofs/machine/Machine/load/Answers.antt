@@ -1,4 +1,4 @@
-use Rattle.std.proofs.{lemmas.{Grind.{common_steps}, List.{length-map}}, Common.{◌≡◌, ◌-◌, ◌≤◌, ◌++◌, Bool, All, map, set, sym, length, take, drop, subst, arith, ◌∙◌, ap, ap₂}}
+use Rattle.std.proofs.{Common.{rules, ◌≡◌, ◌-◌, ◌≤◌, ◌++◌, Bool, All, map, set, length, take, drop, subst, arith, ◌∙◌, ap, ap₂}, lemmas.{Grind.{common_steps}, List.{length-map}}}
 use Rattle.mm_machine.{specs.Language.{Frame.{Mandatory}, Lasting.{IsPattern, lasting_at, pattern_symbols}}, proofs.lemmas.machine.LastingLemmas.{pattern_set, expression_set}}
 use Rattle.mm_machine.proofs.{lemmas.machine.RoomLemmas.{front_grown, put_behind, written_back}, machine.Machine.load.Goals.{In_ok-give_places}}
 use Rattle.mm_machine.proofs.machine.Machine.load.Goals as goal
@@ -64,8 +64,7 @@ returns-clause-holds g c =
     record {
       below = omega (arith, ap length (whole g d), c.in_ok-put_expression.ensures.count, ap length c.deref_mut.ensures.value, c.in_ok-stretch.ensures.count);
       numbered = c.in_ok-put_expression.ensures.numbered;
-      patterns = subst (λ xs. All (IsPattern c.saturating_add-end.result (map m xs) (map m c.put_expression.new.variables.all.items) c.put_expression.new.slots.items) (set c.args.self.now.lasting.patterns.items c.args.number c.in_ok-pattern.pattern))
-          (sym (whole g d)) (added g d).0;
+      patterns = search (rules, added g d, whole g d);
       given = omega (arith, c.in_ok-give_places.ensures, c.len.ensures, c.put_expression.new.variables.all.ok, length-map c.put_expression.new.variables.all.items m);
     }
 

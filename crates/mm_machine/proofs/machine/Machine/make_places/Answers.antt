@@ -1,4 +1,4 @@
-use Rattle.std.proofs.{Common.{◌≡◌, ◌++◌, ◌∷◌, [], All, length, map, false, inr, refl, sym, ◌∙◌, ap, subst, arith, append_assoc}, lemmas.List.{length-map, length_push, map_push, Elements.{All-push}}}
+use Rattle.std.proofs.{Common.{rules, ◌≡◌, ◌++◌, ◌∷◌, [], length, map, false, inr, refl, ◌∙◌, ap, arith, append_assoc}, lemmas.List.{length-map, length_push, map_push, Elements.{All-push}}}
 use Rattle.mm_machine.specs.{Language.{Frame.{Mandatory}, Lasting.{IsPattern, lasting_at}}, declared.lasting.Pattern.{Pattern}}
 use Rattle.mm_machine.proofs.machine.Machine.make_places.Goals as goal
 
@@ -20,12 +20,7 @@ loop-self-preserved g c =
     let longer = ap length c.in_ok-push.ensures.items ∙ length_push l.patterns.items nothing in
     record {
       count = inr (omega (arith, c.loop-self-test.true, c.len.ensures, l.patterns.ok, longer, length-map c.push.new.self.items (lasting_at symbols)));
-      holds = record {
-        below = holds.below;
-        numbered = holds.numbered;
-        patterns = subst (All P) (sym c.in_ok-push.ensures.items) (All-push P l.patterns.items nothing holds.patterns is);
-        given = holds.given;
-      };
+      holds = search (rules);
       more = (
         more.0 ++ none ∷ [],
         ap (map (lasting_at symbols)) c.in_ok-push.ensures.items ∙ map_push (lasting_at symbols) l.patterns.items nothing ∙ ap (λ w. w ++ none ∷ []) more.1 ∙ append_assoc _ more.0 (none ∷ []),
