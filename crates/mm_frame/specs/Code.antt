@@ -12,11 +12,8 @@ pub mod KeptTables
 pub mod TakenOver
 pub mod KeptScope
 pub mod SeenNumbers
+pub mod KeptLists
 pub mod KeptSymbols
-pub mod KeptParts
-pub mod KeptCounts
-pub mod KeptSymbolLists
-pub mod KeptExpressions
 pub mod KeptSparse
 pub mod KeptShared
 pub mod KeptFrames

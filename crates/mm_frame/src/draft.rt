@@ -15,7 +15,7 @@ use crate::base::Base;
 use crate::judge::{FrameFault, fault_of, is_sound_as_known};
 use crate::names::Names;
 use crate::parts::BaseParts;
-use crate::passed::{Passed, with};
+use crate::passed::Passed;
 use crate::symbol::{put_symbols, put_variables};
 use crate::tables::Tables;
 use crate::take_over::{ActiveDisjoints, OldItem};
@@ -112,7 +112,7 @@ impl Draft {
         ensures { IfOk result (λ draft. (all : List (List ℕ)) → AreDistinct all → IsDraft all [] draft) }
     {
         let passed = Passed::with_room(alloc, count)?;
-        let (passed, assertions) = with(passed, Assertions::with_room(alloc, count))?;
+        let assertions = Assertions::with_room(alloc, count)?;
         Ok(Draft {
             passed,
             assertions,

@@ -1,95 +1,45 @@
 //! The symbols of the items, equal ones kept once.
 
-ghost use Rattle.std.specs.Prelude.{◌≡◌, List, [], ◌∷◌, ◌++◌, IfOk, OnOk, Some, length, slice_get};
-ghost use Rattle.mm_frame.specs.Code.{KeptSymbols.{expression_kept}, KeptExpressions.{KeepsExpressions}};
+ghost use Rattle.std.specs.Prelude.{◌≡◌, [], ◌∷◌, ◌++◌, IfOk, OnOk};
 
-use crate::counts::Counts;
 use crate::guesses::ListGuesses;
-use crate::symbol_lists::SymbolLists;
+use crate::item_lists::ItemLists;
+use crate::symbol::same_symbols;
 use mm_machine::NumberedSymbol;
 use std::alloc::{AllocError, Global};
-use std::marker::Model;
 
-/// The symbols of items, by the numbers of the items from 0. Most often equal ones are kept once, in one list.
-///
-/// To add those of one more item takes time linear in them on the average; to find those of an item takes constant time.
-#[derive(Drop)]
-pub struct Expressions {
-    lists: SymbolLists,
-    /// For each item, the number of the list of its symbols.
-    numbers: Counts,
+/// For how many symbols of each item there is room at the beginning: about as many as databases have.
+const FEW_SYMBOLS: usize = 8;
+
+/// There is room for more lists: for a multiple of 4,096, less one. So the room of a base that was dropped fits one with a few
+/// more items, which memory of this size would otherwise be taken anew for.
+const ROUND: usize = 4095;
+
+/// The symbols of items, by the numbers of the items from 0. Most often equal ones are kept once.
+pub type Expressions = ItemLists<NumberedSymbol>;
+
+/// No items, with room for this many, each with a few symbols.
+pub fn room_for_expressions(alloc: Global, count: usize) -> Result<Expressions, AllocError>
+    ensures { IfOk result (λ expressions. expressions ≡ []) }
+{
+    let symbols = (count | ROUND).saturating_mul(FEW_SYMBOLS);
+    ItemLists::with_room(alloc, count, symbols)
 }
 
-impl Model for Expressions {
-    ghost use Rattle.std.specs.Prelude.{List};
-    ghost use Rattle.mm_machine.specs.declared.symbol.NumberedSymbol.{NumberedSymbol as Kept};
-
-    ghost Value = { List (List Kept) };
-
-    ghost use Rattle.mm_frame.specs.Code.KeptExpressions.{expressions_inside, HaveLists};
-
-    ghost view = { expressions_inside };
-
-    ghost invariant = { HaveLists };
-}
-
-/// The number of a list with these symbols. It is added, if none is found by a guess.
-fn number_of(
-    lists: &mut SymbolLists,
+/// Adds the symbols of one more item, for which there may be a guess of an earlier one that has the same. It takes time linear
+/// in them on the average. Out of memory changes nothing.
+pub fn add_expression(
+    expressions: &mut Expressions,
     guesses: &mut ListGuesses,
     symbols: &[NumberedSymbol],
-) -> Result<usize, AllocError>
-    ensures keeps { KeepsExpressions lists.old lists.new }
-    ensures there { IfOk result (λ number. slice_get lists.new number ≡ Some symbols.now) }
+) -> Result<(), AllocError>
+    ensures { OnOk result (expressions.new ≡ expressions.old ++ symbols.now ∷ []) }
 {
     let place = guesses.place_of(symbols);
     let guess = guesses.guess(place);
-    if lists.is_at(guess, symbols) {
-        return Ok(guess);
+    if same_symbols(expressions.at(guess), symbols) {
+        return expressions.add_again(guess);
     }
-    let number = lists.count();
-    lists.add(symbols)?;
-    guesses.keep(place, number);
-    Ok(number)
-}
-
-impl Expressions {
-    /// No items, with room for this many, each with a few symbols.
-    pub fn with_room(alloc: Global, count: usize) -> Result<Expressions, AllocError>
-        ensures { IfOk result (λ expressions. expressions ≡ []) }
-    {
-        let numbers = Counts::with_room(alloc, count)?;
-        let lists = SymbolLists::with_room(alloc, count)?;
-        Ok(Expressions { lists, numbers })
-    }
-
-    /// How many items there are.
-    pub fn count(&self) -> usize
-        ensures { result ≡ length self.now }
-    {
-        self.numbers.len()
-    }
-
-    /// The symbols of the item with this number: none if there is no such item.
-    pub fn at(&self, number: usize) -> &[NumberedSymbol]
-        ensures { result.now ≡ expression_kept self.now number }
-    {
-        match self.numbers.get(number) {
-            Some(list) => self.lists.at(list),
-            None => &[],
-        }
-    }
-
-    /// Adds the symbols of one more item, for which there may be a guess. Out of memory changes nothing.
-    pub fn add(
-        &mut self,
-        guesses: &mut ListGuesses,
-        symbols: &[NumberedSymbol],
-    ) -> Result<(), AllocError>
-        ensures { OnOk result (self.new ≡ self.old ++ symbols.now ∷ []) }
-    {
-        let number = number_of(&mut self.lists, guesses, symbols)?;
-        self.numbers.push(number)?;
-        Ok(())
-    }
+    guesses.keep(place, expressions.count());
+    expressions.add(symbols)
 }

@@ -1,6 +1,6 @@
 //! Guesses of the numbers of lists of symbols.
 
-use mm_machine::NumberedSymbol;
+use mm_machine::{NumberedSymbol, narrow};
 use std::alloc::{AllocError, Global};
 
 /// The most guesses: about as many as the largest databases have different expressions. They find 97 of 100 symbols that
@@ -82,7 +82,7 @@ impl ListGuesses {
 
     /// Keeps a guess, where there is a place for it.
     pub fn keep(&mut self, place: usize, number: usize) {
-        if let Ok(number) = u32::try_from(number) {
+        if let Ok(number) = narrow(number) {
             if place < self.numbers.len() {
                 self.numbers[place] = number;
             }

@@ -1,9 +1,9 @@
 //! The labels and the faults of the items.
 
-ghost use Rattle.std.specs.{Prelude.{◌≡◌, ◌<◌, ◌≤◌, ◌+◌, ◌++◌, ◌∷◌, ℕ, [], Some, None, IfOk, OnOk, false, length, slice_get, slice_index_or, slice_range}, Option.{option_map}};
-ghost use Rattle.mm_frame.specs.Code.KeptRows.{bytes_or_none, fault_kept, fault_told, row_label, row_fault, is_shown_in, AreRowsKept, rows_of};
+ghost use Rattle.std.specs.{Prelude.{◌≡◌, ◌<◌, ◌≤◌, ◌+◌, ◌++◌, ◌∷◌, ℕ, [], Some, None, IfOk, OnOk, false, length, slice_get, slice_index_or}, Option.{option_map}};
+ghost use Rattle.mm_frame.specs.Code.KeptRows.{fault_kept, fault_told, row_label, row_fault, is_shown_in, AreRowsKept, rows_of};
 
-use crate::counts::{Counts, ListPart};
+use crate::item_lists::ItemLists;
 use crate::judge::FrameFault;
 use std::alloc::{AllocError, Global};
 
@@ -14,24 +14,12 @@ use std::alloc::{AllocError, Global};
 /// constant time.
 #[derive(Drop)]
 pub struct Rows {
-    /// The bytes of the labels, one label after another.
-    bytes: Vec<u8>,
-    /// For each item, how many bytes there are up to the end of its label.
-    ends: Counts,
+    /// The label of each item: no bytes for an item that has none.
+    labels: ItemLists<u8>,
     /// For each item, whether it has a label.
     labelled: Vec<bool>,
     /// The faults, up to the last: most often there is none.
     faults: Vec<Option<FrameFault>>,
-}
-
-/// Adds the bytes of a label, if there is one.
-fn add_label(bytes: &mut Vec<u8>, label: Option<&[u8]>) -> Result<(), AllocError>
-    ensures { OnOk result (bytes.new.items ≡ bytes.old.items ++ bytes_or_none (option_map (λ label. label.now) label.entry)) }
-{
-    if let Some(label) = label {
-        bytes.extend_from_slice(label)?;
-    }
-    Ok(())
 }
 
 /// Has places for the faults of this many items.
@@ -82,26 +70,16 @@ fn is_labelled(flags: &[bool], n: usize) -> bool
     }
 }
 
-/// The bytes from one place to another.
-fn bytes_between(bytes: &[u8], start: usize, end: usize) -> &[u8]
-    requires start { start ≤ end }
-    requires end { end ≤ length bytes.now }
-    ensures { result.now ≡ slice_range bytes.now start end }
-{
-    &bytes[start..end]
-}
-
 impl Rows {
     /// No items, with room for this many.
     pub fn with_room(alloc: Global, count: usize) -> Result<Rows, AllocError>
         ensures kept { IfOk result AreRowsKept }
         ensures none { IfOk result (λ rows. rows_of rows ≡ []) }
     {
-        let ends = Counts::with_room(alloc, count)?;
+        let labels = ItemLists::with_room(alloc, count, 0)?;
         let labelled = Vec::with_capacity(alloc, count)?;
         Ok(Rows {
-            bytes: Vec::new(alloc),
-            ends,
+            labels,
             labelled,
             faults: Vec::new(alloc),
         })
@@ -111,7 +89,7 @@ impl Rows {
     pub fn count(&self) -> usize
         ensures { result ≡ length (rows_of self.now) }
     {
-        self.ends.len()
+        self.labels.count()
     }
 
     /// The label of the item with this number, if there is such an item and it has one.
@@ -122,8 +100,7 @@ impl Rows {
         if !is_labelled(&self.labelled, n) {
             return None;
         }
-        let ListPart { start, end } = self.ends.part(n);
-        Some(bytes_between(&self.bytes, start, end))
+        Some(self.labels.at(n))
     }
 
     /// The fault of the item with this number, if there is such an item and it has one.
@@ -151,10 +128,9 @@ impl Rows {
         ensures more { OnOk result (AreRowsKept self.old
             → rows_of self.new ≡ rows_of self.old ++ (option_map (λ label. label.now) label.entry, fault_told fault) ∷ []) }
     {
-        add_fault(&mut self.faults, self.ends.len(), fault)?;
-        add_label(&mut self.bytes, label)?;
+        add_fault(&mut self.faults, self.labels.count(), fault)?;
         self.labelled.push(label.is_some())?;
-        self.ends.push(self.bytes.len())?;
+        self.labels.add(label.unwrap_or(&[]))?;
         Ok(())
     }
 }

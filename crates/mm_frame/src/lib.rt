@@ -12,7 +12,6 @@ mod blocks;
 mod build;
 mod codes;
 mod copied_lists;
-mod counts;
 mod draft;
 mod earlier;
 mod essential;
@@ -21,6 +20,7 @@ mod expressions;
 mod frame;
 mod frames;
 mod guesses;
+mod item_lists;
 mod item_rows;
 mod judge;
 mod label_numbers;
@@ -40,7 +40,6 @@ mod shared;
 mod sorted_lists;
 mod sparse;
 mod symbol;
-mod symbol_lists;
 mod tables;
 mod take_over;
 
@@ -73,6 +72,7 @@ pub use same::{
     same_active_pairs, same_but_pairs, same_expression, same_frame, same_mandatory_hypotheses,
     same_mandatory_pairs,
 };
+pub use sparse::Sparse;
 
 /// The number of a fault of a statement, or of a missing inclusion.
 #[derive(Clone, Copy, Debug, PartialEq, Eq)]

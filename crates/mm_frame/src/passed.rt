@@ -12,7 +12,7 @@ use crate::FrameNumber;
 use crate::active_items::{ActiveItems, TakenItem, is_disjoint};
 use crate::blocks::Blocks;
 use crate::earlier::Earlier;
-use crate::expressions::Expressions;
+use crate::expressions::{Expressions, add_expression, room_for_expressions};
 use crate::guesses::ListGuesses;
 use crate::item_rows::Rows;
 use crate::judge::FrameFault;
@@ -83,14 +83,6 @@ fn follow_pairs(
     Ok(())
 }
 
-/// This and one thing more. If there is no memory for that, this is dropped here, and the caller has nothing to drop. It is
-/// here for the time of the check alone, which looks at each drop on each way out of a function.
-pub fn with<A: Drop, B: Drop>(one: A, more: Result<B, AllocError>) -> Result<(A, B), AllocError>
-    ensures { IfOk result (λ both. (both.0 ≡ one) × (more ≡ Ok both.1)) }
-{
-    Ok((one, more?))
-}
-
 impl Passed {
     ghost use Rattle.mm_frame.specs.Code.KeptBase.{IsPassed};
 
@@ -98,11 +90,10 @@ impl Passed {
     pub fn with_room(alloc: Global, count: usize) -> Result<Self, AllocError>
         ensures { IfOk result (λ passed. (all : List (List ℕ)) → AreDistinct all → IsPassed all [] passed) }
     {
-        let expressions = Expressions::with_room(alloc, count)?;
-        let lists = with(expressions, ListGuesses::with_room(alloc, count))?;
-        let told = with(lists, Rows::with_room(alloc, count))?;
-        let (kept, scope) = with(told, Scope::with_room(alloc, count))?;
-        let ((expressions, guesses), rows) = kept;
+        let scope = Scope::with_room(alloc, count)?;
+        let rows = Rows::with_room(alloc, count)?;
+        let expressions = room_for_expressions(alloc, count)?;
+        let guesses = ListGuesses::with_room(alloc, count)?;
         Ok(Passed {
             scope,
             rows,
@@ -166,7 +157,7 @@ impl Passed {
         let item = self.next(statement, fault);
         let blocks = self.scope.blocks();
         follow_pairs(alloc, &mut self.pair_table, blocks, numbers, item)?;
-        self.expressions.add(&mut self.guesses, symbols)?;
+        add_expression(&mut self.expressions, &mut self.guesses, symbols)?;
         self.rows
             .add(statement.label(), told_fault(item.kind, fault))?;
         self.scope.next(alloc, statement, numbers, item.sound)?;

@@ -13,7 +13,7 @@ ghost use Rattle.mm_frame.specs.Code.LastItems as numbered;
 use crate::blocks::Blocks;
 use crate::names::Names;
 use crate::tables::{Declared, Tables};
-use mm_machine::NumberedSymbol;
+use mm_machine::{NumberedSymbol, narrow};
 use mm_statement::Statement;
 use mm_store::ItemKind;
 use std::alloc::{AllocError, Global};
@@ -27,7 +27,7 @@ pub struct Scope {
     tables: Tables,
     blocks: Blocks,
     /// The number of the typecode of each `$f`, by the number of the item: 0 for any other item.
-    typecodes: Vec<usize>,
+    typecodes: Vec<u32>,
 }
 
 /// The number of the typecode of a `$f` whose symbols have these numbers; 0 for any other item.
@@ -181,7 +181,10 @@ impl Scope {
     fn typecode(&self, number: usize) -> usize
         ensures { result ≡ slice_index_or self.now.typecodes.items number 0 }
     {
-        self.typecodes.get(number).copied().unwrap_or(0)
+        match self.typecodes.get(number) {
+            Some(typecode) => *typecode as usize,
+            None => 0,
+        }
     }
 
     /// Whether a `$f`, active or not, gives the name with this number another typecode than the one with that number.
@@ -214,8 +217,8 @@ impl Scope {
         self.tables
             .add(alloc, statement, numbers, self.typecodes.len())?;
         mark(&mut self.blocks, statement.kind())?;
-        self.typecodes
-            .push(float_typecode(statement.kind(), numbers))?;
+        let typecode = narrow(float_typecode(statement.kind(), numbers))?;
+        self.typecodes.push(typecode)?;
         Ok(())
     }
 

@@ -1,8 +1,7 @@
 -- What checks said, by the places of items: one item more, and one check in the place of another.
-use Rattle.std.proofs.lemmas.{Grind.{common_steps}, Bool.{false≢true}, List.{length-map, length_push, get_or-map, get_or_append_left, get_or_past, map-append, same_lists}}
-use Rattle.std.proofs.lemmas.Option.{slice_get-get_or, slice_get_past}
-use Rattle.std.proofs.Common.{cond, Result, Ok, is_ok, ◌≡◌, ◌≢◌, ℕ, zero, suc, ◌<◌, ◌≤◌, ◌+◌, ◌-◌, true, Option, Some, None, List, [], ◌∷◌, ◌++◌, length, map, get_or, set, is_some, sym, ◌∙◌, ap}
-use Rattle.std.proofs.{Common.{subst, arith, length-set, get_or-set_other, get_or-set_same, slice_get}, Math.Seq.{get_or-append_seam}}
+use Rattle.std.proofs.lemmas.{Grind.{common_steps}, Bool.{false≢true}, List.{length_push, get_or_append_left, map-append}, Option.{slice_get-get_or, slice_get_past, none-some, same_Some}}
+use Rattle.std.proofs.Common.{cond, Result, Ok, is_ok, ◌≡◌, ◌≢◌, ℕ, zero, suc, ◌<◌, true, Option, Some, None, List, [], ◌∷◌, ◌++◌, length, map, get_or, set, is_some, refl, sym, ◌∙◌, ap, arith}
+use Rattle.std.proofs.{Common.{length-set, get_or-set_other, get_or-set_same, slice_get}, Math.Seq.{get_or-append_seam}}
 use native.Mathlib.Decide.{dec_lt}
 use Rattle.mm_proof.specs.mm_verdict.Language.Work.{Judgement}
 use Rattle.mm_keep.specs.Code.KeptCheck.{IsPlaced, Kept, kept_at}
@@ -28,76 +27,81 @@ get_elsewhere xs q k y ne =
       | no n ↦ slice_get_past (set xs q y) k (omega arith) ∙ sym (slice_get_past xs k (omega arith))
     ]
 
+-- what is kept of an item
+pub kept_here : (checks : List (Option Judgement)) (places : List (Option ℕ)) (i : ℕ) → get_or (map (kept_at checks) places) i None ≡ kept_at checks (get_or places i None)
+kept_here checks [] i = refl
+kept_here checks (p ∷ places) zero = refl
+kept_here checks (p ∷ places) (suc i) = kept_here checks places i
+
 -- what is at a place of a list with one check more, and with one put in the place of another
-at_before : (checks : List (Option Judgement)) (one : Option Judgement) (place : ℕ) → place ≤ length checks → kept_at (checks ++ one ∷ []) place ≡ kept_at checks place
-at_before checks one place l = grind (arith, common_steps, get_before) steps 200000
+at_before : (checks : List (Option Judgement)) (one : Option Judgement) (place : Option ℕ) → ((n : ℕ) → place ≡ Some n → n < length checks) → kept_at (checks ++ one ∷ []) place ≡ kept_at checks place
+at_before checks one None l = refl
+at_before checks one (Some n) l = get_before checks one n (l n refl)
 
-at_elsewhere : (checks : List (Option Judgement)) (q : ℕ) (one : Option Judgement) (place : ℕ) → place ≢ suc q → kept_at (set checks q one) place ≡ kept_at checks place
-at_elsewhere checks q one place ne = grind (arith, common_steps, get_elsewhere) steps 200000
+at_elsewhere : (checks : List (Option Judgement)) (q : ℕ) (one : Option Judgement) (place : Option ℕ) → place ≢ Some q → kept_at (set checks q one) place ≡ kept_at checks place
+at_elsewhere checks q one None ne = refl
+at_elsewhere checks q one (Some n) ne = get_elsewhere checks q n one (λ e. ne (ap Some e))
 
-at_last : (checks : List (Option Judgement)) (one : Option Judgement) (place : ℕ) → place ≡ length checks + 1 → kept_at (checks ++ one ∷ []) place ≡ Some one
-at_last checks one zero e = absurd (omega (arith, e))
-at_last checks one (suc q) e = let same : length checks ≡ q = omega (arith, e) in subst (λ k. slice_get (checks ++ one ∷ []) k ≡ Some one) same (get_last checks one)
-
-at_put : (checks : List (Option Judgement)) (q : ℕ) (one : Option Judgement) (place : ℕ) → place ≡ q + 1 → q < length checks → kept_at (set checks q one) place ≡ Some one
-at_put checks q one place e l = grind (arith, common_steps, get_put) steps 200000
-
--- a place at which there is a check
-at_some : (checks : List (Option Judgement)) (place : ℕ) → is_some (kept_at checks place) ≡ true → (place ≡ place - 1 + 1) × (place - 1 < length checks)
-at_some checks place e = grind (arith, common_steps, false≢true, slice_get_past) steps 200000
+-- an item whose place this is
+place_there : (places : List (Option ℕ)) (i q : ℕ) → Some q ≡ get_or places i None → slice_get places i ≡ Some (Some q)
+place_there [] i q e = absurd (none-some q (sym e))
+place_there (p ∷ places) zero q e = ap Some (sym e)
+place_there (p ∷ places) (suc i) q e = place_there places i q e
 
 -- one item more, with a check
-pub added : (checks : List (Option Judgement)) (places : List ℕ) (one : Option Judgement) (place : ℕ) → IsPlaced places (length checks) → place ≡ length checks + 1
-    → map (kept_at (checks ++ one ∷ [])) (places ++ place ∷ []) ≡ map (kept_at checks) places ++ Some one ∷ []
-added checks places one place is e =
+pub added : (checks : List (Option Judgement)) (places : List (Option ℕ)) (one : Option Judgement) → IsPlaced places (length checks)
+    → map (kept_at (checks ++ one ∷ [])) (places ++ Some (length checks) ∷ []) ≡ map (kept_at checks) places ++ Some one ∷ []
+added checks places one is =
     let f = kept_at (checks ++ one ∷ []) in
-    let before : map f places ≡ map (kept_at checks) places = same_lists (map f places) (map (kept_at checks) places) (length-map places f ∙ sym (length-map places (kept_at checks)))
-    (λ k d l.
-    let w : k < length places = let n = length-map places f in omega arith in
-    get_or-map f places k 0 d w ∙ at_before checks one (get_or places k 0) (is.within k (get_or places k 0) (slice_get-get_or places k 0 w)) ∙ sym (get_or-map (kept_at checks) places k 0 d w)) in
-    map-append f places (place ∷ []) ∙ ap (λ xs. xs ++ f place ∷ []) before ∙ ap (λ x. map (kept_at checks) places ++ x ∷ []) (at_last checks one place e)
+    map-append f places (Some (length checks) ∷ []) ∙ ap (λ xs. xs ++ f (Some (length checks)) ∷ []) (before places (λ k p e. is.within k p e))
+    ∙ ap (λ x. map (kept_at checks) places ++ x ∷ []) (get_last checks one)
+  where
+    before : (ps : List (Option ℕ)) → ((k p : ℕ) → slice_get ps k ≡ Some (Some p) → p < length checks) → map (kept_at (checks ++ one ∷ [])) ps ≡ map (kept_at checks) ps
+    before [] w = refl
+    before (p ∷ ps) w = (λ i. at_before checks one p (λ n e. w 0 n (ap Some e)) i ∷ before ps (λ k. w (suc k)) i)
 
 pub pushed : {X E : Type 0} (result : Result (Unit {0}) E) (done : Unit {0}) (new whole old : List X) → result ≡ Ok done → new ≡ cond (is_ok result) whole old → new ≡ whole
 pushed result done new whole old e n = n ∙ ap (λ r. cond (is_ok r) whole old) e
 
--- the place of an item with a check
-pub placed : (checks : List (Option Judgement)) (places : List ℕ) (i place : ℕ) → place ≡ get_or places i place → is_some (get_or (map (kept_at checks) places) i None) ≡ true
-    → (i < length places) × (place ≡ place - 1 + 1) × (place - 1 < length checks)
-placed checks places i place is some = grind (arith, common_steps, at_some, false≢true, get_or-map, get_or_past, length-map) steps 200000
-
 -- what the check of an item said
-pub found : (checks : List (Option Judgement)) (places : List ℕ) (i place : ℕ) (one : Option Judgement) → place ≡ get_or places i place → is_some (get_or (map (kept_at checks) places) i None) ≡ true
-    → one ≡ get_or checks (place - 1) one → get_or (map (kept_at checks) places) i None ≡ Some one
-found checks places i place one here some is =
-    let at = placed checks places i place here some in
-    let next : (n : ℕ) → n + 1 ≡ suc n = λ n. omega arith in
-    get_or-map (kept_at checks) places i place None at.0 ∙ ap (kept_at checks) (sym here ∙ at.1 ∙ next (place - 1)) ∙ slice_get-get_or checks (place - 1) one at.2 ∙ ap Some (sym is)
+pub found : (checks : List (Option Judgement)) (places : List (Option ℕ)) (i q : ℕ) (one : Option Judgement) → IsPlaced places (length checks) → Some q ≡ get_or places i None
+    → one ≡ get_or checks q one → get_or (map (kept_at checks) places) i None ≡ Some one
+found checks places i q one are here is =
+    kept_here checks places i ∙ ap (kept_at checks) (sym here) ∙ slice_get-get_or checks q one (are.within i q (place_there places i q here)) ∙ ap Some (sym is)
+
+pub within : (checks : List (Option Judgement)) (places : List (Option ℕ)) (i q : ℕ) → IsPlaced places (length checks) → Some q ≡ get_or places i None → q < length checks
+within checks places i q are here = are.within i q (place_there places i q here)
+
+-- an item of which something is kept has a place
+pub has_place : (checks : List (Option Judgement)) (places : List (Option ℕ)) (now : List Kept) (i : ℕ) → map (kept_at checks) places ≡ now → is_some (get_or now i None) ≡ true → is_some (get_or places i None) ≡ true
+has_place checks places now i same some = some_place (get_or places i None) (sym (ap is_some (ap (λ xs. get_or xs i None) (sym same) ∙ kept_here checks places i)) ∙ some)
+  where
+    some_place : (place : Option ℕ) → is_some (kept_at checks place) ≡ true → is_some place ≡ true
+    some_place None e = absurd (false≢true e)
+    some_place (Some n) e = refl
 
 -- one check in the place of another
-pub exchanged : (checks : List (Option Judgement)) (places : List ℕ) (i place : ℕ) (one : Option Judgement) → IsPlaced places (length checks) → place ≡ get_or places i place
-    → is_some (get_or (map (kept_at checks) places) i None) ≡ true
-    → map (kept_at (set checks (place - 1) one)) places ≡ set (map (kept_at checks) places) i (Some one)
-exchanged checks places i place one is here some =
-    let f = kept_at (set checks (place - 1) one) in
-    let old = map (kept_at checks) places in
-    let at = placed checks places i place here some in
-    let long : length (map f places) ≡ length places = length-map places f in
-    let kept : length old ≡ length places = length-map places (kept_at checks) in
-    same_lists (map f places) (set old i (Some one)) (long ∙ sym kept ∙ sym (length-set old i (Some one))) (λ k d l.
-    let w : k < length places = omega arith in
-    let away : k ≢ i → get_or (map f places) k d ≡ get_or (set old i (Some one)) k d =
-    λ ne. get_or-map f places k 0 d w
-    ∙ at_elsewhere checks (place - 1) one (get_or places k 0) (λ e. ne (is.once k i (place - 1) (slice_get-get_or places k 0 w ∙ ap Some e) (slice_get-get_or places i place at.0 ∙ ap Some (sym here ∙ at.1 ∙ next (place - 1)))))
-    ∙ sym (get_or-map (kept_at checks) places k 0 d w) ∙ sym (get_or-set_other old i k (Some one) d ne) in
-    elim (dec_lt k i) [
-      | yes m ↦ away (omega arith)
-      | no m ↦ grind (arith, common_steps, dec_lt i k, get_or-map f places i place d at.0, at_put checks (place - 1) one place at.1 at.2, get_or-set_same old i (Some one) d (omega (arith, at.0))) steps 200000
-    ]) where
-      next : (n : ℕ) → n + 1 ≡ suc n
-      next n = omega arith
+exchanged : (checks : List (Option Judgement)) (places : List (Option ℕ)) (i q : ℕ) (one : Option Judgement) → IsPlaced places (length checks) → Some q ≡ get_or places i None
+    → map (kept_at (set checks q one)) places ≡ set (map (kept_at checks) places) i (Some one)
+exchanged checks places i q one is here =
+    by places i (place_there places i q here) (λ k e. is.once k i q e (place_there places i q here))
+  where
+    at : q < length checks
+    at = within checks places i q is here
+    others : (ps : List (Option ℕ)) → ((k : ℕ) → slice_get ps k ≢ Some (Some q)) → map (kept_at (set checks q one)) ps ≡ map (kept_at checks) ps
+    others [] ne = refl
+    others (p ∷ ps) ne = (λ i. at_elsewhere checks q one p (λ e. ne 0 (ap Some e)) i ∷ others ps (λ k. ne (suc k)) i)
+    by : (ps : List (Option ℕ)) (j : ℕ) → slice_get ps j ≡ Some (Some q) → ((k : ℕ) → slice_get ps k ≡ Some (Some q) → k ≡ j) → map (kept_at (set checks q one)) ps ≡ set (map (kept_at checks) ps) j (Some one)
+    by [] j e once = absurd (none-some (Some q) e)
+    by (p ∷ ps) zero e once =
+        let put = ap (kept_at (set checks q one)) (same_Some p (Some q) e) ∙ get_put checks q one at in
+        (λ i. put i ∷ others ps (λ k f. absurd (omega (arith, once (suc k) f))) i)
+    by (p ∷ ps) (suc j) e once =
+        let away = at_elsewhere checks q one p (λ f. absurd (omega (arith, once 0 (ap Some f)))) in
+        (λ i. away i ∷ by ps j e (λ k f. omega (arith, once (suc k) f)) i)
 
 -- the same by what is answered: what the check of an item said is put in the place of what that of another item said
-pub exchanged_by : (checks : List (Option Judgement)) (places : List ℕ) (i place : ℕ) (now theirs : List Kept) (j : ℕ) (one other : Option Judgement) → IsPlaced places (length checks)
-    → place ≡ get_or places i place → is_some (get_or (map (kept_at checks) places) i None) ≡ true → map (kept_at checks) places ≡ now → one ≡ other → get_or theirs j None ≡ Some other
-    → map (kept_at (set checks (place - 1) one)) places ≡ set now i (get_or theirs j None)
-exchanged_by checks places i place now theirs j one other is here some same e there = grind (arith, common_steps, exchanged checks places i place one is here some) steps 200000
+pub exchanged_by : (checks : List (Option Judgement)) (places : List (Option ℕ)) (i q : ℕ) (now theirs : List Kept) (j : ℕ) (one other : Option Judgement) → IsPlaced places (length checks)
+    → Some q ≡ get_or places i None → map (kept_at checks) places ≡ now → one ≡ other → get_or theirs j None ≡ Some other
+    → map (kept_at (set checks q one)) places ≡ set now i (get_or theirs j None)
+exchanged_by checks places i q now theirs j one other is here same e there = grind (arith, common_steps, exchanged checks places i q one is here) steps 200000

@@ -1,6 +1,5 @@
 -- What the code keeps: private contracts and loop invariants cite it.
 pub mod KeptCheck
-pub mod KeptPlan
 pub mod OfFiles
 pub mod KeyedTold
 pub mod FoundKinds

@@ -6,15 +6,14 @@ ghost use Rattle.mm_proof.specs.{mm_frame.Language.Older.{HasOlder, IsOlder}, mm
 ghost use Rattle.mm_keep.specs.Code.{Next.{KeepsOrRuns, HasTop, IsBuilt, IsFirst, IsNextBase, RunsAll}, Planned.{AreBothRead}};
 
 use crate::kept::Checks;
-use crate::plan::Plan;
 use crate::planning::{planned, run_rest};
-use mm_proof::{Base, Files, Names, StoreError, Work};
+use mm_proof::{Base, Files, Names, Sparse, StoreError, Work};
 use std::alloc::{AllocError, Global};
 
 /// What each item of a base keeps of what was checked before, what is checked of the others, and the record of these runs.
 #[derive(Drop)]
 pub struct Ran {
-    pub plan: Plan,
+    pub plan: Sparse,
     pub checked: Checks,
     pub work: Work,
 }
@@ -115,7 +114,7 @@ fn run_all(alloc: Global, names: &Names, files: &Files, base: &Base) -> Result<R
     requires { (view : BaseView) × IsReadIn names.now files.now base.now view }
     ensures { IfOk result (λ ran. (view : BaseView) → IsReadIn names.now files.now base.now view → RunsAll view ran) }
 {
-    let plan = Plan::nothing(alloc, base.count());
+    let plan = Sparse::none(alloc, base.count())?;
     let (checked, work) = run_rest(alloc, names, files, base, &plan)?;
     Ok(Ran {
         plan,

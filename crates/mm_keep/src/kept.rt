@@ -3,70 +3,27 @@
 ghost use Rattle.std.specs.{Prelude.{◌≡◌, ◌<◌, ◌++◌, ◌∷◌, [], true, None, Some, IfOk, IfSome, OnOk, is_some, length, slice_index, slice_index_or, slice_set}, Option.{option_map}};
 ghost use Rattle.mm_keep.specs.Code.KeptCheck.{numbers_in, said};
 
-use mm_proof::{Checked, Verdict};
+use mm_proof::{Checked, Sparse, Verdict, narrow};
 use std::alloc::{AllocError, Global};
 use std::marker::Model;
 use std::mem;
 
-/// Numbers of words, in half the room if each fits there, as nearly always.
-#[derive(Drop)]
-enum WordNumbers {
-    Short(Vec<u32>),
-    Long(Vec<usize>),
-}
-
-/// The same numbers in half the room, if each fits there.
-fn short_numbers(alloc: Global, numbers: &[usize]) -> Result<Option<Vec<u32>>, AllocError>
-    ensures { IfOk result (λ short. IfSome short (λ some. some.items ≡ numbers.now)) }
+/// The same numbers, in four bytes each.
+fn narrowed(alloc: Global, numbers: &[usize]) -> Result<Vec<u32>, AllocError>
+    ensures { IfOk result (λ narrowed. narrowed.items ≡ numbers.now) }
 {
-    let mut short = Vec::with_capacity(alloc, numbers.len())?;
+    let mut narrowed = Vec::with_capacity(alloc, numbers.len())?;
     for number in numbers {
-        if *number > 4294967295 {
-            return Ok(None);
-        }
-        short.push(*number as u32)?;
+        narrowed.push(narrow(*number)?)?;
     }
-    Ok(Some(short))
-}
-
-impl WordNumbers {
-    /// These numbers.
-    fn of(alloc: Global, numbers: &[usize]) -> Result<WordNumbers, AllocError>
-        ensures { IfOk result (λ kept. numbers_in kept ≡ numbers.now) }
-    {
-        match short_numbers(alloc, numbers)? {
-            Some(short) => Ok(WordNumbers::Short(short)),
-            None => Ok(WordNumbers::Long(Vec::from_slice(alloc, numbers)?)),
-        }
-    }
-
-    /// How many there are.
-    fn count(&self) -> usize
-        ensures { result ≡ length (numbers_in self.now) }
-    {
-        match self {
-            WordNumbers::Short(short) => short.len(),
-            WordNumbers::Long(long) => long.len(),
-        }
-    }
-
-    /// The one at this place.
-    fn at(&self, x: usize) -> usize
-        requires { x < length (numbers_in self.now) }
-        ensures { result ≡ slice_index (numbers_in self.now) x }
-    {
-        match self {
-            WordNumbers::Short(short) => short[x] as usize,
-            WordNumbers::Long(long) => long[x],
-        }
-    }
+    Ok(narrowed)
 }
 
 /// What a check of a proof said: its verdict, and the numbers of the words that cite, rising.
 #[derive(Drop)]
 pub struct KeptCheck {
     verdict: Verdict,
-    cites: WordNumbers,
+    cites: Vec<u32>,
 }
 
 impl Model for KeptCheck {
@@ -86,7 +43,7 @@ impl KeptCheck {
     {
         Ok(KeptCheck {
             verdict: checked.verdict(),
-            cites: WordNumbers::of(alloc, checked.cites())?,
+            cites: narrowed(alloc, checked.cites())?,
         })
     }
 
@@ -101,7 +58,7 @@ impl KeptCheck {
     pub fn count(&self) -> usize
         ensures { result ≡ length self.now.cites }
     {
-        self.cites.count()
+        self.cites.len()
     }
 
     /// The number of the word that cites at this place.
@@ -109,7 +66,7 @@ impl KeptCheck {
         requires { x < length self.now.cites }
         ensures { result ≡ slice_index self.now.cites x }
     {
-        self.cites.at(x)
+        self.cites[x] as usize
     }
 }
 
@@ -122,8 +79,8 @@ impl KeptCheck {
 pub struct Checks {
     /// What was said; nothing at a free place.
     checks: Vec<Option<KeptCheck>>,
-    /// For each item, 0 if it has no place in the list; else its place, counted from 1.
-    places: Vec<u32>,
+    /// For each item its place in the list, if it has one.
+    places: Sparse,
 }
 
 impl Model for Checks {
@@ -140,84 +97,45 @@ impl Model for Checks {
 }
 
 impl Checks {
-    /// No items, which takes no memory.
-    pub fn new(alloc: Global) -> Checks
-        ensures { result ≡ [] }
-    {
-        Checks {
-            checks: Vec::new(alloc),
-            places: Vec::new(alloc),
-        }
-    }
-
     /// No items, with room for this many, of which this many have a place.
     pub fn with_room(alloc: Global, items: usize, checks: usize) -> Result<Checks, AllocError>
         ensures { IfOk result (λ made. made ≡ []) }
     {
-        let mut made = Checks::new(alloc);
-        made.checks.reserve(checks)?;
-        made.places.reserve(items)?;
-        Ok(made)
+        let places = Sparse::with_room(alloc, items)?;
+        let checks = Vec::with_capacity(alloc, checks)?;
+        Ok(Checks { checks, places })
     }
 
     /// The allocator that the lists are made on.
     pub fn allocator(&self) -> Global {
-        *self.places.allocator()
+        *self.checks.allocator()
     }
 
     /// How many items there are.
     pub fn count(&self) -> usize
         ensures { result ≡ length self.now }
     {
-        self.places.len()
+        self.places.count()
     }
 
     /// What the check of the proof of an item said, if that is kept.
     pub fn get(&self, i: usize) -> Option<&KeptCheck>
-        requires { i < length self.now }
         ensures { option_map (λ check. check.now) result ≡ said (slice_index_or self.now i None) }
     {
-        match self.places[i] {
-            0 => None,
-            place => self.checks.get(place as usize - 1)?.as_ref(),
-        }
+        let place = self.places.at(i)?;
+        self.checks.get(place)?.as_ref()
     }
 
-    /// Adds one more item, with what its check said, if there was one. Out of memory changes nothing.
-    pub fn push(&mut self, check: Option<KeptCheck>) -> Result<(), AllocError>
-        requires { length self.old < 4294967295 }
-        ensures { OnOk result (self.new ≡ self.old ++ option_map Some check ∷ []) }
+    /// Adds one more item: with no place, with a free one, or with what its check said. Out of memory changes nothing.
+    pub fn push(&mut self, kept: Option<Option<KeptCheck>>) -> Result<(), AllocError>
+        ensures { OnOk result (self.new ≡ self.old ++ kept ∷ []) }
     {
-        match check {
-            Some(check) => self.add(Some(check)),
-            None => self.pass(),
-        }
-    }
-
-    /// Adds one more item, with a free place. Out of memory changes nothing.
-    pub fn leave(&mut self) -> Result<(), AllocError>
-        requires { length self.old < 4294967295 }
-        ensures { OnOk result (self.new ≡ self.old ++ Some None ∷ []) }
-    {
-        self.add(None)
-    }
-
-    /// Adds one more item, with a place that has this. Out of memory changes nothing.
-    fn add(&mut self, place: Option<KeptCheck>) -> Result<(), AllocError>
-        requires { length self.old < 4294967295 }
-        ensures { OnOk result (self.new ≡ self.old ++ Some place ∷ []) }
-    {
+        let Some(check) = kept else {
+            return self.places.add(None);
+        };
         self.checks.reserve(1)?;
-        self.places.push(self.checks.len() as u32 + 1)?;
-        self.checks.push(place).unwrap();
-        Ok(())
-    }
-
-    /// Adds one more item, which has no place. Out of memory changes nothing.
-    fn pass(&mut self) -> Result<(), AllocError>
-        ensures { OnOk result (self.new ≡ self.old ++ None ∷ []) }
-    {
-        self.places.push(0)?;
+        self.places.add(Some(self.checks.len()))?;
+        self.checks.push(check).unwrap();
         Ok(())
     }
 
@@ -228,8 +146,8 @@ impl Checks {
         ensures own { self.new ≡ slice_set self.old i (slice_index_or others.old j None) }
         ensures other { others.new ≡ slice_set others.old j (slice_index_or self.old i None) }
     {
-        let own = self.places[i] as usize - 1;
-        let other = others.places[j] as usize - 1;
+        let own = self.places.at(i).unwrap();
+        let other = others.places.at(j).unwrap();
         mem::swap(&mut self.checks[own], &mut others.checks[other]);
     }
 }

@@ -9,7 +9,6 @@ mod finding;
 mod keeping;
 mod kept;
 mod laws;
-mod plan;
 mod planning;
 mod seen;
 mod session;

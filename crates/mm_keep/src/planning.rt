@@ -2,13 +2,12 @@
 
 ghost use Rattle.std.specs.Prelude.{◌≡◌, ◌<◌, ◌+◌, ◌^◌, ℕ, true, Some, None, IfOk, OnOk, is_some, length, slice_index_or, slice_set};
 ghost use Rattle.mm_proof.specs.{mm_frame.Language.{Base.{BaseView}, Answering.{IsBase}}, mm_verdict.Language.ReadIn.{IsReadIn}};
-ghost use Rattle.mm_keep.specs.Code.{KeptPlan.{number_planned}, KeptSession.{AreChecked, IsCheckedAt}};
+ghost use Rattle.mm_keep.specs.Code.KeptSession.{AreChecked, IsKeptAt};
 ghost use Rattle.mm_keep.specs.Code.Planned.{AddsOne, AreBothRead, AreMarksBy, ArePlanned, AreRecorded, AreRunBy, CanBeCarried, CanCarry, HasItemBothRead, HasItemRead, IsPlanned, IsRunBy, RecordsIf};
 
 use crate::kept::{Checks, KeptCheck};
-use crate::plan::Plan;
 use mm_proof::{
-    Base, Checker, Files, Marks, Names, Work, labels_are_own, same_view_by, same_view_same_cites,
+    Base, Checker, Files, Marks, Names, Sparse, Work, labels_are_own, same_view_by, same_view_same_cites,
     same_view_same_verdict,
 };
 use std::alloc::{AllocError, Global};
@@ -37,36 +36,25 @@ fn old_with_same_view(
     }
 }
 
-/// The number of an item as a plan keeps it. No base has more items than there are such numbers.
-fn entry(base: &Base, number: Option<usize>) -> u32
-    ensures { (view : BaseView) → IsBase view base.now → ((i : ℕ) → number ≡ Some i → i < length view) → number_planned result ≡ number }
-{
-    let _count = base.count();
-    match number {
-        Some(i) if i < 4294967295 => i as u32 + 1,
-        _ => 0,
-    }
-}
-
-/// What each item of the new base keeps.
+/// For each item of the new base the number of the item of the old one of which it keeps what was checked, if it keeps something.
 pub fn planned(
     alloc: Global,
     names: &Names,
     files: &Files,
     old: &Base,
     new: &Base,
-) -> Result<Plan, AllocError>
+) -> Result<Sparse, AllocError>
     requires { (base : BaseView) × (copy : BaseView) × AreBothRead names.now files.now old.now new.now base copy }
     ensures { IfOk result (λ plan. (base copy : BaseView) → AreBothRead names.now files.now old.now new.now base copy → ArePlanned base copy plan) }
 {
     let marks = Marks::build(alloc, names, old, new)?;
     let count = new.count();
-    let mut entries = Vec::with_capacity(alloc, count)?;
+    let mut plan = Sparse::with_room(alloc, count)?;
     for j in 0..count {
         let from = old_with_same_view(names, files, old, new, &marks, j);
-        entries.push(entry(old, from))?;
+        plan.add(from)?;
     }
-    Ok(Plan::of(entries))
+    Ok(plan)
 }
 
 /// What checks read: a base, the files that its items are in, and the names of its symbols.
@@ -77,20 +65,20 @@ struct Source<'a> {
     base: &'a Base,
 }
 
-/// What a check of the item with this number says, if it is a sound `$p`.
+/// What is kept of the item with this number: what a check of it says, if it is a sound `$p`.
 fn run_one(
     alloc: Global,
     source: Source<'_>,
     checker: &mut Checker<'_>,
     j: usize,
     work: &mut Work,
-) -> Result<Option<KeptCheck>, AllocError>
+) -> Result<Option<Option<KeptCheck>>, AllocError>
     requires item { HasItemRead source.names.now source.files.now source.base.now j }
     requires base { checker.old ≡ source.base.now }
     requires room { 0 < work.old.room }
     requires steps { work.old.steps + 4294967295 < 2 ^ 64 }
     ensures one { IfOk result (λ one. (view : BaseView) → IsReadIn source.entry.names.now source.entry.files.now source.entry.base.now view
-        → IsCheckedAt view j one) }
+        → IsKeptAt view j one) }
     ensures work { OnOk result ((view : BaseView) → IsReadIn source.entry.names.now source.entry.files.now source.entry.base.now view
         → RecordsIf view None j work.old work.new) }
     ensures base { checker.new ≡ checker.old }
@@ -99,7 +87,7 @@ fn run_one(
         None => Ok(None),
         Some(_) => {
             let checked = checker.check(alloc, source.names, source.files, j, work)?;
-            Ok(Some(KeptCheck::of(alloc, &checked)?))
+            Ok(Some(Some(KeptCheck::of(alloc, &checked)?)))
         }
     }
 }
@@ -117,7 +105,6 @@ fn run_of(
 ) -> Result<(), AllocError>
     requires item { HasItemRead source.names.now source.files.now source.base.now j }
     requires base { checker.old ≡ source.base.now }
-    requires few { length checked.old < 4294967295 }
     requires room { 0 < work.old.room }
     requires steps { work.old.steps + 4294967295 < 2 ^ 64 }
     ensures one { OnOk result (AddsOne checked.old checked.new (λ one. (view : BaseView)
@@ -126,10 +113,11 @@ fn run_of(
         → RecordsIf view from j work.old work.new) }
     ensures base { checker.new ≡ checker.old }
 {
-    match from {
-        Some(_) => checked.leave(),
-        None => checked.push(run_one(alloc, source, checker, j, work)?),
-    }
+    let kept = match from {
+        Some(_) => Some(None),
+        None => run_one(alloc, source, checker, j, work)?,
+    };
+    checked.push(kept)
 }
 
 /// How many sound `$p` there are among the first items.
@@ -149,7 +137,7 @@ pub fn run_rest(
     names: &Names,
     files: &Files,
     base: &Base,
-    plan: &Plan,
+    plan: &Sparse,
 ) -> Result<(Checks, Work), AllocError>
     requires read { (view : BaseView) × IsReadIn names.now files.now base.now view × (length plan.now ≡ length view) }
     ensures checked { IfOk result (λ run. (view : BaseView) → IsReadIn names.now files.now base.now view
@@ -189,7 +177,7 @@ fn carry_one(old: &mut Checks, from: Option<usize>, new: &mut Checks, j: usize)
 }
 
 /// Moves what was checked before to the items that keep it, by the plan. Nothing can fail.
-pub fn carry(old: &mut Checks, plan: &Plan, new: &mut Checks)
+pub fn carry(old: &mut Checks, plan: &Sparse, new: &mut Checks)
     requires { CanBeCarried old.old plan.now new.old }
     ensures { (base copy : BaseView) → CanCarry base copy old.old plan.now new.old → AreChecked copy new.new }
 {

@@ -9,12 +9,12 @@
 mod active;
 mod apart;
 mod citation;
+mod four_bytes;
 mod gather;
 mod kept;
 mod lasting;
 mod machine;
 mod named;
-mod narrow;
 mod numbering_laws;
 mod pairs;
 mod pattern;
@@ -29,6 +29,7 @@ mod variables;
 mod verdict_laws;
 
 pub use active::Active;
+pub use four_bytes::narrow;
 pub use kept::Kept;
 pub use lasting::Pattern;
 pub use machine::Machine;

@@ -7,11 +7,11 @@ ghost use Rattle.mm_machine.specs.Language.{Lasting.{IsCited, cited_frame, lasti
 use crate::ProofNumber;
 use crate::active::Active;
 use crate::citation::citing_fault;
+use crate::four_bytes::narrow;
 use crate::gather::PairRoom;
 use crate::kept::{BLOCK, Kept};
 use crate::lasting::{Lasting, Pattern};
 use crate::named::Cited;
-use crate::narrow::narrow;
 use crate::pattern::{Entry, Given, build};
 use crate::slots::{Slot, put_expression};
 use crate::symbol::Symbol;

@@ -3,8 +3,8 @@
 ghost use Rattle.std.specs.Prelude.{◌≡◌, ◌+◌, ◌++◌, ◌≤◌, List, IfOk, OnOk, length, map, take};
 ghost use Rattle.mm_machine.specs.Language.{Frame.{Symbol as Meaning}, Lasting.{AreSlotsOf}, Keys.{AreNumbered}};
 
+use crate::four_bytes::narrow;
 use crate::kept::Kept;
-use crate::narrow::narrow;
 use crate::variables::Variables;
 use std::alloc::{AllocError, Global};
 

@@ -3,7 +3,7 @@
 ghost use Rattle.std.specs.Prelude.{◌≡◌, ◌↔◌, ◌/◌, ◌^◌, ◌<◌, ◌≤◌, IsTrue, IfOk, OnErr, Ok};
 ghost use Rattle.mm_machine.specs.Language.{NumberedSymbols.{by_code, by_number, named_symbol}, Frame.{Symbol as Meaning}};
 
-use crate::narrow::narrow;
+use crate::four_bytes::narrow;
 use std::alloc::{AllocError, Global};
 
 /// A symbol by the number of its name among some names, as a constant or as a variable.

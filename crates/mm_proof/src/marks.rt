@@ -7,8 +7,9 @@ ghost use Rattle.mm_proof.specs.Language.BaseMarks.{AreMarks, HaveOneLabel, IsMa
 
 use crate::compared::Compared;
 use crate::mark::{Mark, NO_MARK};
-use crate::ordinals::{Ordinals, end_alike, in_full_width, is_labelled, narrowed};
+use crate::ordinals::{Ordinals, end_alike, in_full_width, is_labelled};
 use mm_frame::{Base, Names, has_own_labels, labels_mean, same_expression};
+use mm_machine::narrow;
 use std::alloc::{AllocError, Global};
 use std::marker::Model;
 
@@ -95,7 +96,7 @@ fn mark_of(
     let frame = compared.same_frame(old, i, new, j, marks)?;
     let pairs = compared.same_pairs(old, i, new, j)?;
     Ok(Mark {
-        old: Some(narrowed(old, i)),
+        old: Some(narrow(i)?),
         frame,
         hypothesis: same_hypothesis(old, i, new, j),
         pairs,

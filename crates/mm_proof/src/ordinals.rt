@@ -5,6 +5,7 @@ ghost use Rattle.mm_frame.specs.Language.{Base.{BaseView, is_shown_at}, Answerin
 ghost use Rattle.mm_proof.specs.Code.{InStep.{AreOrdinals, AreOrdinalsOf, SharesEnd}, KeptMarks.{OfBases}};
 
 use mm_frame::Base;
+use mm_machine::narrow;
 use std::alloc::{AllocError, Global};
 
 /// The labelled items of a base are its sound `$f`, `$e`, `$a` and `$p`, in order; the ordinal of an item is how many of
@@ -13,14 +14,6 @@ use std::alloc::{AllocError, Global};
 pub struct Ordinals {
     old: Vec<u32>,
     new: Vec<u32>,
-}
-
-/// The same number in half the room. No base has more items than there are such numbers.
-pub fn narrowed(base: &Base, n: usize) -> u32
-    ensures { (view : BaseView) → IsBase view base.now → n ≤ length view → result ≡ n }
-{
-    let _count = base.count();
-    if n <= 4294967295 { n as u32 } else { 0 }
 }
 
 /// The same number in its full width, if there is one.
@@ -48,12 +41,12 @@ fn ordinals_of(alloc: Global, base: &Base) -> Result<Vec<u32>, AllocError>
     let mut numbers = Vec::with_capacity(alloc, count.saturating_add(1))?;
     let mut ordinal = 0;
     for n in 0..count {
-        numbers.push(narrowed(base, ordinal))?;
+        numbers.push(narrow(ordinal)?)?;
         if is_labelled(base, n) {
             ordinal += 1;
         }
     }
-    numbers.push(narrowed(base, ordinal))?;
+    numbers.push(narrow(ordinal)?)?;
     Ok(numbers)
 }
 

@@ -1,16 +1,10 @@
--- The labels and faults of items as the code keeps them: the labels in one list, with the ends of each, and the faults up to the last.
+-- The labels and faults of items as the code keeps them: the labels, whether each is one, and the faults up to the last.
 use Rattle.std.specs.Prelude.{◌≡◌, ℕ, suc, ◌≤◌, ◌&&◌, Bool, false, if◌then◌else◌, is_some, is_none}
 use Rattle.std.specs.Prelude.{Option, Some, None, List, [], ◌∷◌, length, slice_get, slice_index_or}
 use Rattle.std.specs.Option.{option_map}
 use Rattle.mm_frame.specs.declared.FrameNumber.{FrameNumber}
 use Rattle.mm_frame.specs.declared.judge.FrameFault.{FrameFault}
 use Rattle.mm_frame.specs.declared.item_rows.Rows.{Rows}
-use Rattle.mm_frame.specs.Code.KeptParts.{cut_from, EndsFrom}
-
--- the bytes of a label: none if there is no label
-abbrev pub bytes_or_none : Option (List ℕ) → List ℕ
-bytes_or_none None = []
-bytes_or_none (Some label) = label
 
 -- what is reported of a fault
 abbrev pub fault_told : Option FrameFault → Option (ℕ × FrameNumber)
@@ -35,13 +29,12 @@ rows_from n (bytes ∷ labels) flags faults = row_told flags faults n bytes ∷ 
 
 -- the labels and faults of the items
 abbrev pub rows_of : Rows → List (Option (List ℕ) × Option (ℕ × FrameNumber))
-rows_of rows = rows_from 0 (cut_from rows.bytes.items 0 rows.ends) rows.labelled.items rows.faults.items
+rows_of rows = rows_from 0 rows.labels rows.labelled.items rows.faults.items
 
--- the ends are those of all bytes, it is kept of each item whether it has a label, and there are no more faults
+-- it is kept of each item whether it has a label, and there are no more faults
 pub record AreRowsKept (rows : Rows) : Type 0 where
-  pub cut : EndsFrom 0 rows.ends (length rows.bytes.items)
-  pub flags : length rows.labelled.items ≡ length rows.ends
-  pub faults : length rows.faults.items ≤ length rows.ends
+  pub flags : length rows.labelled.items ≡ length rows.labels
+  pub faults : length rows.faults.items ≤ length rows.labels
 
 -- the label of an item, its fault, and whether it has a label and no fault, if there is such an item
 abbrev pub row_label : Option (Option (List ℕ) × Option (ℕ × FrameNumber)) → Option (List ℕ)

@@ -1,5 +1,5 @@
 -- Symbols and expressions as the code keeps them.
-use Rattle.std.specs.Prelude.{◌≡◌, ℕ, Bool, true, not, length, if◌then◌else◌, Option, Some, None, List, [], All, take, slice_get, option_to_list}
+use Rattle.std.specs.Prelude.{◌≡◌, ℕ, Bool, true, not, length, if◌then◌else◌, Some, List, [], All, take, slice_get, option_to_list}
 use Rattle.std.specs.List.{flat_map}
 use Rattle.mm_machine.specs.declared.symbol.NumberedSymbol.{NumberedSymbol}
 use Rattle.mm_frame.specs.declared.tables.Tables.{Tables}
@@ -7,6 +7,7 @@ use Rattle.mm_machine.specs.Language.Frame.{Symbol}
 use Rattle.mm_statement.specs.Language.Item.{Said, has, is_labelled, is_read}
 use Rattle.mm_frame.specs.Language.Scope.{constants}
 use Rattle.mm_frame.specs.Language.Framing.{expression}
+use Rattle.mm_frame.specs.Code.KeptLists.{item_list}
 use Rattle.mm_frame.specs.Code.KeptTables.{declared_at, is_constant_as, float_of}
 use Rattle.mm_machine.specs.Language.NumberedSymbols.{symbols_of, IsNumbered}
 
@@ -22,14 +23,9 @@ symbol_by tables n = record { name = n; variable = not (is_constant_as (declared
 abbrev pub variable_by : ℕ → NumberedSymbol
 variable_by n = record { name = n; variable = true }
 
--- the symbols that are kept for an item: none if nothing is kept
-abbrev pub kept_or_none : Option (List NumberedSymbol) → List NumberedSymbol
-kept_or_none None = []
-kept_or_none (Some kept) = kept
-
--- the symbols that are kept for the item with this number
+-- the symbols that are kept for the item with this number: none if nothing is kept
 abbrev pub expression_kept : List (List NumberedSymbol) → ℕ → List NumberedSymbol
-expression_kept expressions n = kept_or_none (slice_get expressions n)
+expression_kept expressions n = item_list expressions n
 
 -- for each `$f`, `$e`, `$a` and `$p` its expression is kept, read at its own place
 abbrev pub AreExpressions : List (List ℕ) → List Said → List (List NumberedSymbol) → Type 0

@@ -1,13 +1,14 @@
 -- What a base says, from what is kept, and that it is right.
-use Rattle.std.proofs.lemmas.{Grind.{common_steps}, List.{length-map, Elements.{All-nil}}, Bool.{false≢true, and_from, and_parts}, Option.{slice_get-map, slice_get_within, slice_get_cases}}
-use Rattle.std.proofs.Common.{◌≡◌, ◌↔◌, ℕ, zero, suc, ◌≤◌, true, false, ◌&&◌, Option, Some, None, List, [], ◌∷◌, length, map, take, slice_get, is_none, is_some, refl, sym, ◌∙◌, ap, subst, arith, All}
-use Rattle.std.{proofs.Common.{IfSome}, specs.{Borrow.{Bor}, Option.{option_map}, List.{AllZip}}}
+use Rattle.std.proofs.lemmas.{Grind.{common_steps}, List.{length-map, Elements.{All-nil}}, Bool.{false≢true, and_from, and_parts}}
+use Rattle.std.proofs.lemmas.Option.{slice_get-map, slice_get_within, slice_get_cases, unwrap_or-slice_get, get_or_from_slice_get}
+use Rattle.std.proofs.Common.{◌≡◌, ◌↔◌, ℕ, zero, suc, ◌≤◌, true, false, ◌&&◌, Option, Some, None, List, [], ◌∷◌, length, map, take, slice_get, unwrap_or, is_none, is_some, refl, sym, ◌∙◌, ap, subst}
+use Rattle.std.{proofs.Common.{arith, All, IfSome}, specs.{Borrow.{Bor}, Option.{option_map}, List.{AllZip}}}
 use Rattle.mm_frame.proofs.lemmas.base.BaseLemmas.{framed_in_order, item_there, kept_front_at, kept_item_at, none_told, row_none, item_beyond, kept_count}
 use Rattle.mm_frame.proofs.lemmas.{base.ResolvingLemmas.{carrier_found, found_carrier}, faults.FoundFaults.{sound_found}, frames.FrameNumbers.{HasKind, frame_numbers, framed_some}}
 use Rattle.mm_frame.{proofs.lemmas.{frames.SameFrames.{same_from_order}, lists.SharedValues.{value_there}, pairs.SharedPairs.{same_turned, same_joined}}, specs.Code.KeptPairLists.{list_kept}}
-use Rattle.mm_frame.specs.Code.{KeptSortedLists.{pairs_or_none}, KeptSymbols.{AreSymbols, expression_kept, kept_or_none}, KeptTables.{table_label}, BaseInside.{answers_of}}
+use Rattle.mm_frame.specs.Code.{KeptSortedLists.{pairs_or_none}, KeptSymbols.{AreSymbols, expression_kept}, KeptLists.{list_or_none}, KeptTables.{table_label}, BaseInside.{answers_of}}
 use Rattle.mm_frame.specs.Code.{KeptRows.{rows_of, row_label, row_fault, is_shown_in}, KeptAssertions.{TellsFrame, TellsPairs}, KeptBase.{AreParts, frame_told, hypotheses_at, list_told}}
-use Rattle.mm_frame.specs.Code.{KeptShared.{shared_values}, KeptSparse.{value_or_none, value_kept}}
+use Rattle.mm_frame.specs.Code.{KeptShared.{shared_values}, KeptSparse.{value_kept}}
 use Rattle.mm_frame.specs.Language.{Base.{told_fault, AreLabelled, BaseView, before, said_at, fault_at, frame_at, is_framed_at, is_sound_at, ShareMandatory}, Sound.{fault, sound_items}}
 use Rattle.mm_frame.specs.Language.{Framing.{active_pairs, expression}, Resolving.{IsCarrier}}
 use Rattle.mm_frame.specs.{Language.Answering.{AreRows, HasNumber, IsLabelTold, IsExpressionTold, IsFrameTold, AreActiveTold, BaseAnswers, IsBaseBy}, declared.FrameNumber.{FrameNumber}}
@@ -55,12 +56,12 @@ expressions_told all base expressions are = record {
   each =
       λ n symbols e. record {
         expression =
-            (λ t. ap (λ o. symbols_of all (kept_or_none o)) (sym e)
+            (λ t. ap (λ o. symbols_of all (list_or_none o)) (sym e)
             ∙ (let item = said_at base n in let parts = and_parts (is_sound_at base n) (is_read item.kind) t in
             let sound = none_told item.kind (fault (before base n) item) parts.0 in let there = item_there is_read refl base n parts.1 in
             are.each n item (kept_item_at base n item there sound) parts.1
             ∙ ap (λ w. expression w item) (kept_front_at base n item there)));
-        numbered = subst (All (IsNumbered all)) (ap kept_or_none e) (are.numbered n);
+        numbered = subst (All (IsNumbered all)) (ap list_or_none e) (are.numbered n);
       };
 }
 
@@ -76,12 +77,12 @@ expression_read all base expressions i are t =
     let row =
     row_there (IsExpressionTold all) base expressions i are
     (item_there is_read refl base i (and_parts (is_sound_at base i) (is_read (said_at base i).kind) t).1) in
-    ap (λ o. symbols_of all (kept_or_none o)) row.1 ∙ (are.each i row.0 row.1).expression t
+    ap (λ o. symbols_of all (list_or_none o)) row.1 ∙ (are.each i row.0 row.1).expression t
 
 pub expression_numbered : (all : List (List ℕ)) (said : List Said) (expressions : List (List NumberedSymbol)) (i : ℕ) → AreRows (IsExpressionTold all) said expressions → All (IsNumbered all) (expression_kept expressions i)
 expression_numbered all said expressions i are = by (slice_get expressions i) refl
   where
-    by : (o : Option (List NumberedSymbol)) → slice_get expressions i ≡ o → All (IsNumbered all) (kept_or_none o)
+    by : (o : Option (List NumberedSymbol)) → slice_get expressions i ≡ o → All (IsNumbered all) (list_or_none o)
     by None e = All-nil (IsNumbered all)
     by (Some symbols) e = (are.each i symbols e).numbered
 
@@ -93,9 +94,9 @@ order_told all pairs lent kept e told = grind (arith, common_steps) steps 200000
 -- what is kept of an item is right of it, if the answer for no row is right past the last item
 told_at : {X Y : Type 0} (f : Option X → Y) (told : List Said → Said → Y → Type 0) (said : List Said) (kept : List (Option X)) → AreRows told said (map f kept) → (i : ℕ) → (length said ≤ i → told (sound_items (take i said)) (item_at said i) (f None))
     → told (sound_items (take i said)) (item_at said i) (f (value_kept kept i))
-told_at f told said kept are i beyond = by (slice_get kept i) refl
+told_at f told said kept are i beyond = subst (λ o. told (sound_items (take i said)) (item_at said i) (f o)) (unwrap_or-slice_get kept i None) (by (slice_get kept i) refl)
   where
-    by : (o : Option _) → slice_get kept i ≡ o → told (sound_items (take i said)) (item_at said i) (f (value_or_none o))
+    by : (o : Option _) → slice_get kept i ≡ o → told (sound_items (take i said)) (item_at said i) (f (unwrap_or o None))
     by (Some row) e = are.each i (f row) (slice_get-map f kept i ∙ ap (option_map f) e)
     by None e = beyond (row_none told said (map f kept) i are (slice_get-map f kept i ∙ ap (option_map f) e))
 
@@ -149,7 +150,7 @@ number_told kept told i (Some k) e same = subst (λ w. HasNumber w i k) same (va
 pub number_shared : (kept told : List (Option ℕ)) (i : ℕ) (found : Option ℕ) (Shares : ℕ → Type 0) → found ≡ value_kept kept i → kept ≡ told
     → ((j k : ℕ) → value_kept kept i ≡ Some k → value_kept kept j ≡ Some k → Shares j) → IfSome found (λ k. (j : ℕ) → HasNumber told j k → Shares j)
 number_shared kept told i None Shares e same share = tt
-number_shared kept told i (Some k) Shares e same share = λ j has. share j k (sym e) (ap value_or_none (ap (λ w. slice_get w j) same ∙ has))
+number_shared kept told i (Some k) Shares e same share = λ j has. share j k (sym e) (get_or_from_slice_get kept j (Some k) None (ap (λ w. slice_get w j) same ∙ has))
 
 -- past the last item none is a `$f`
 pub float_none : (found : List store.Item) (said : List Said) (i : ℕ) → AllZip HasKind found said → slice_get found i ≡ None → false ≡ is_kind Floating (item_at said i).kind

@@ -1,11 +1,11 @@
 -- The items so far are the first ones of an older base: what it says of its next item is right of the next item.
-use Rattle.std.proofs.lemmas.{Grind.{common_steps}, Bool.{false≢true}, List.{length_push, take-append-le}, Option.{slice_get_within, get_or_from_slice_get}}
+use Rattle.std.proofs.lemmas.{Grind.{common_steps}, List.{length_push, take-append-le}, Option.{slice_get_within, get_or_from_slice_get}}
 use Rattle.std.proofs.Common.{◌≡◌, ℕ, zero, suc, ◌<◌, Bool, true, Option, Some, List, [], ◌∷◌, ◌++◌, length, take, slice_get, nat_eq, refl, sym, ◌∙◌, ap, subst, arith, take-suc, take-append-drop}
 use Rattle.std.specs.{HashMap.{get}, List.{AllZip}}
 use Rattle.mm_store.specs.Language.FilesView.{FilesView}
 use Rattle.mm_frame.specs.{declared.pair_lists.PairLists.{PairLists}, Language.{Sound.{sound_items}, Framing.{active_pairs}, Base.{BaseView, before}, Answering.{AreRows, BaseAnswers}}}
 use Rattle.mm_frame.specs.Code.{KeptAssertions.{TellsPairs}, KeptPairLists.{AreMade, IsList, KeepsLists}, KeptSparse.{value_kept}, KnownItem.{IsAgain}, TakenOver.{AreFirst, AreFirstIf}}
-use Rattle.mm_frame.proofs.lemmas.{pairs.{PairListLemmas.{list_stays}, SharedPairs.{same_joined}}, reading.KnownItems.{same_again}}
+use Rattle.mm_frame.proofs.lemmas.{pairs.{PairListLemmas.{list_stays}, SharedPairs.{same_joined}}, reading.KnownItems.{same_again}, lists.SharedValues.{value_there}}
 use Rattle.mm_machine.specs.Language.{Frame.{Symbol, AreSamePairs}, NumberedSymbols.{kept_pairs}}
 use Rattle.mm_statement.specs.Language.{Item.{Said, item_at}, Statement.{OneRangeSaysOne, Says}}
 use Rattle.mm_store.specs.declared.item.Item as store
@@ -40,9 +40,6 @@ first_after same files answers said item i one law number again says first t b e
 
 -- ---- the lists of active pairs
 
-value_there : {X : Type 0} (kept : List (Option X)) (j : ℕ) (x : X) → Some x ≡ value_kept kept j → slice_get kept j ≡ Some (Some x)
-value_there kept j x e = grind (arith, common_steps, false≢true) steps 200000
-
 -- a list that is shared
 list_shared : (all : List (List ℕ)) (lists : PairLists) (k : ℕ) (pairs others : List (Symbol × Symbol)) → IsList all lists k pairs → AreSamePairs pairs others → IsList all lists k others
 list_shared all lists k pairs others is same = record {
@@ -55,7 +52,7 @@ list_shared all lists k pairs others is same = record {
 pub list_here : (all : List (List ℕ)) (lists : PairLists) (base : BaseView) (said : List Said) (numbers : List (Option ℕ)) (j i k : ℕ) → AreFirst base said → i ≡ length said → AreRows (TellsPairs all lists) said numbers
     → Some k ≡ value_kept numbers j → AreSamePairs (active_pairs (before base j)) (active_pairs (before base i)) → IsList all lists k (active_pairs (sound_items said))
 list_here all lists base said numbers j i k front number rows e shared =
-    let row = value_there numbers j k e in
+    let row = value_there numbers j k (sym e) in
     let within = slice_get_within numbers j (Some k) row in
     let earlier : j < length said = omega arith in
     let told = rows.each j (Some k) row in

@@ -4,7 +4,7 @@ use Rattle.std.proofs.{Common.{subst, take-append-drop, append_assoc, length-app
 use Rattle.std.proofs.lemmas.{List.Elements.{Contains-append_left, Contains-append_right, Contains-append_cases}, Option.{slice_get_within}}
 use native.Mathlib.Decide.{dec_lt}
 use Rattle.mm_frame.specs.{declared.{essential.EssentialVariable.{EssentialVariable}, tables.Tables.{Tables}}, Language.{Scope.{active_numbers}, Marks.{Neither, Closes}}}
-use Rattle.mm_frame.specs.Code.{LastItems.{is_active_at, is_essential_item}, KeptSymbols.{expression_kept, kept_or_none, float_number, float_numbers}}
+use Rattle.mm_frame.specs.Code.{LastItems.{is_active_at, is_essential_item}, KeptLists.{list_or_none}, KeptSymbols.{expression_kept, float_number, float_numbers}}
 use Rattle.mm_frame.specs.Code.{KeptVariables.{by_essential, AddsOne, AddsAll, IsKeptVariable, AreVariablesOf, IsKeptBy, known_float}, PairOrder.{is_among}}
 use Rattle.mm_frame.proofs.lemmas.frames.{Frames.{essential_neither}, HypothesisNumbers.{to_active_number, from_active_number, active_numbers_more}}
 use Rattle.mm_frame.proofs.lemmas.{lists.{Members.{In, in_contains, contains_in, in_left, in_flat, from_flat}, Rising.{in_among}}, scope.BlockLemmas.{get_front, get_cases}}
@@ -85,7 +85,7 @@ earlier_within : (before : List Said) (n : ℕ) → In n (active_numbers is_esse
 earlier_within before n h = let r = from_active_number is_essential_item before n h in slice_get_within before n r.0 r.1
 
 same_kept : (old : List (List NumberedSymbol)) (symbols : List NumberedSymbol) (n : ℕ) → n < length old → expression_kept (old ++ symbols ∷ []) n ≡ expression_kept old n
-same_kept old symbols n l = ap kept_or_none (get_before old symbols n l)
+same_kept old symbols n l = ap list_or_none (get_before old symbols n l)
 
 -- the variables that are left are those of the `$e` that are active yet
 record AreLeftOf (essentials : List ℕ) (expressions : List (List NumberedSymbol)) (count : ℕ) (found : List EssentialVariable) : Type 0 where

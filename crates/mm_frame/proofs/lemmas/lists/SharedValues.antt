@@ -1,6 +1,6 @@
 -- Values that several items can have: they stay while more values come.
 use Rattle.std.proofs.Common.{◌≡◌, ℕ, zero, suc, ◌<◌, Option, Some, None, Result, Ok, Err, List, [], ◌∷◌, ◌++◌, length, map, slice_get, is_some, refl, sym, ◌∙◌, ap, subst, arith, inl, inr}
-use Rattle.std.{proofs.lemmas.{Grind.{common_steps}, List.{map-append}, Option.{slice_get_cases}}, specs.Prelude.{OnOk, OnErr}}
+use Rattle.std.{proofs.lemmas.{Grind.{common_steps}, List.{map-append}, Option.{slice_get_cases, none-some}}, specs.Prelude.{OnOk, OnErr}}
 use Rattle.mm_frame.{specs.Code.{KeptShared.{value_at}, KeptSparse.{value_kept}}, proofs.lemmas.{lists.Members.{get_join}, scope.BlockLemmas.{get_cases}}}
 
 -- each place is below this
@@ -28,7 +28,9 @@ values_stay values more (p ∷ places) h =
 
 -- an item that has a value
 pub value_there : {X : Type 0} (kept : List (Option X)) (n : ℕ) (x : X) → value_kept kept n ≡ Some x → slice_get kept n ≡ Some (Some x)
-value_there kept n x e = grind (arith, common_steps) steps 200000
+value_there [] n x e = absurd (none-some x e)
+value_there (y ∷ kept) zero x e = ap Some e
+value_there (y ∷ kept) (suc n) x e = value_there kept n x e
 
 -- each item that has a place has a value
 some_at : {X : Type 0} (values : List X) (place : Option ℕ) → ((n : ℕ) → place ≡ Some n → n < length values) → is_some place ≡ is_some (value_at values place)

@@ -1,4 +1,4 @@
-use Rattle.std.proofs.{Common.{false, Some, refl, sym, ◌∙◌, subst, arith}, lemmas.Option.{same_Some}}
+use Rattle.std.proofs.{Common.{false, Some, refl, sym, ◌∙◌, subst}, lemmas.Option.{same_Some}}
 use Rattle.mm_proof.{specs.{Language.BaseMarks.{IsMark}, Code.KeptMarks.{IsOneHypothesis}}, proofs.KeptMarkLemmas.{nothing_kept, some_kept}}
 use Rattle.mm_proof.proofs.marks.mark_of.Goals as goal
 
@@ -10,12 +10,9 @@ returns-clause-mark c names base copy f g =
     let frame = c.in_ok-frame.frame in
     let pairs = c.in_ok-pairs.pairs in
     let is = some_kept base copy c.in-Some.i c.args.j frame pairs (λ k. c.in-Some.ensures names base copy f g k) (c.in_ok-frame.ensures.same names base copy f g) (c.in_ok-pairs.ensures.same names base copy f g) in
-    let within = ((c.in-Some.ensures names base copy f g c.in-Some.i).0 refl).within in
-    let small = c.narrowed.ensures base (names, f) (omega (arith, within)) in
-    subst (λ n. IsMark base copy c.args.j (record { old = Some n; frame = frame; pairs = pairs; in_step = false })) (sym small) is
+    subst (λ n. IsMark base copy c.args.j (record { old = Some n; frame = frame; pairs = pairs; in_step = false })) (sym c.in_ok-narrow.ensures.same) is
 
 pub returns-clause-kept : goal.returns-clause-kept
 returns-clause-kept c e i is names base copy f g =
     let shown = (c.in-Some.ensures names base copy f g c.in-Some.i).0 refl in
-    let small = c.narrowed.ensures base (names, f) (let l = shown.within in omega (arith, l)) in
-    subst (λ n. IsOneHypothesis base copy n c.args.j) (sym small ∙ same_Some c.narrowed.result i is) (c.same_hypothesis.ensures e names base copy f g shown.was shown.is)
+    subst (λ n. IsOneHypothesis base copy n c.args.j) (sym c.in_ok-narrow.ensures.same ∙ same_Some c.in_ok-narrow.field-0 i is) (c.same_hypothesis.ensures e names base copy f g shown.was shown.is)

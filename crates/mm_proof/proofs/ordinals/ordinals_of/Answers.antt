@@ -8,10 +8,7 @@ loop-n-preserved c =
     let n = c.loop-n.n in
     let more : (view : BaseView) → IsBase view c.args.base.now → AreOrdinals view (n + 1) c.push.new.self.items = λ view is. (
     let front = c.loop-n.invariant.are view is in
-    let count = c.count-count.ensures.count view is in
-    let few = c.loop-n.invariant.few in
-    let same = c.narrowed.ensures view is (omega (arith, few, count, c.loop-n-test.true)) in
-    subst (λ (ns : List ℕ). AreOrdinals view (n + 1) ns) (sym c.in_ok-push.ensures.items) (ordinals_more view n c.loop-n.numbers.items c.narrowed.result front.0 (same ∙ front.1))) in
+    subst (λ (ns : List ℕ). AreOrdinals view (n + 1) ns) (sym c.in_ok-push.ensures.items) (ordinals_more view n c.loop-n.numbers.items c.in_ok-narrow.field-0 front.0 (c.in_ok-narrow.ensures.same ∙ front.1))) in
     elim c.if-is_labelled.branch [
       | then-is_labelled w ↦ record {
         few = (let few = c.loop-n.invariant.few in let next = w.ordinal-is in omega (arith, few, next));
@@ -29,7 +26,5 @@ returns c view is =
     let count = c.count-count.ensures.count view is in
     let front = c.loop-n.invariant.are view is in
     let all : n + 1 ≡ suc (length view) = omega (arith, count, c.loop-n.auto.n-end, c.loop-n-test.false) in
-    let few = c.loop-n.invariant.few in
-    let same = c.narrowed-2.ensures view is (omega (arith, few, all)) in
-    let more = subst (λ (ns : List ℕ). AreOrdinals view (n + 1) ns) (sym c.in_ok-push-2.ensures.items) (ordinals_more view n c.loop-n.numbers.items c.narrowed-2.result front.0 (same ∙ front.1)) in
+    let more = subst (λ (ns : List ℕ). AreOrdinals view (n + 1) ns) (sym c.in_ok-push-2.ensures.items) (ordinals_more view n c.loop-n.numbers.items c.in_ok-narrow-2.field-0 front.0 (c.in_ok-narrow-2.ensures.same ∙ front.1)) in
     subst (λ k. AreOrdinals view k c.push-2.new.self.items) all more

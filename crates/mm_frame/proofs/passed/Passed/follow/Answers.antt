@@ -21,12 +21,12 @@ returns c all said d told numbers kept =
     let number : c.next-item.result.number ≡ length before = omega (arith, c.next-item.ensures.number, kept_count said, d.rows.count) in
     let pairs = c.in_ok-follow_pairs.ensures all before item d.scope.knows.distinct are_sound kind number (c.blocks-blocks.ensures ∙ d.scope.marks)
     (λ t. numbers (grind (arith, common_steps) steps 200000)) is_sound d.pair_table in
-    let added = c.in_ok-add.ensures in
+    let added = c.in_ok-add_expression.ensures in
     let active = c.in_ok-follow.ensures before item c.args.self.now.expressions symbols kind number (c.blocks-blocks-2.ensures ∙ holds.marks) d.symbols.count added d.active in
     record {
       scope = subst (λ w. ScopeHolds all w c.next.new.self) more holds;
-      kept = c.in_ok-add-2.ensures.kept d.kept;
-      rows = subst (AreRows IsLabelTold (said ++ item ∷ [])) (sym (c.in_ok-add-2.ensures.more d.kept))
+      kept = c.in_ok-add.ensures.kept d.kept;
+      rows = subst (AreRows IsLabelTold (said ++ item ∷ [])) (sym (c.in_ok-add.ensures.more d.kept))
           (rows_more IsLabelTold said item (rows_of c.args.self.now.rows) (option_map (λ label. label.now) c.label.result, fault_told c.told_fault.result) d.rows (record {
             label = c.label.ensures.label;
             labelled = some_lent (λ label. label.now) c.label.result ∙ c.label.ensures.some;
@@ -34,6 +34,6 @@ returns c all said d told numbers kept =
           }));
       symbols =
           grind (arith, common_steps, symbols_more all before (taken flag item) c.args.self.now.expressions symbols d.symbols kept.numbered (symbols_taken all before item symbols flag own)) steps 200000;
-      active = subst (λ w. AreActiveKept w c.add.new.self c.follow.new.self) more active;
+      active = subst (λ w. AreActiveKept w c.add_expression.new.expressions c.follow.new.self) more active;
       pair_table = subst (λ w. KnowsPairs all w c.follow_pairs.new.pairs) more pairs;
     }
