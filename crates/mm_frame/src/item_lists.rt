@@ -66,8 +66,10 @@ impl<T: Copy> ItemLists<T> {
         ensures { IfOk result (λ lists. lists ≡ []) }
     {
         let parts = Vec::with_capacity(alloc, items)?;
-        let elements = Vec::with_capacity(alloc, elements)?;
-        Ok(ItemLists { elements, parts })
+        Ok(ItemLists {
+            elements: Vec::with_capacity(alloc, elements)?,
+            parts,
+        })
     }
 
     /// How many items there are.

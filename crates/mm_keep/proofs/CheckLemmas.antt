@@ -88,9 +88,11 @@ exchanged checks places i q one is here =
   where
     at : q < length checks
     at = within checks places i q is here
+
     others : (ps : List (Option ℕ)) → ((k : ℕ) → slice_get ps k ≢ Some (Some q)) → map (kept_at (set checks q one)) ps ≡ map (kept_at checks) ps
     others [] ne = refl
     others (p ∷ ps) ne = (λ i. at_elsewhere checks q one p (λ e. ne 0 (ap Some e)) i ∷ others ps (λ k. ne (suc k)) i)
+
     by : (ps : List (Option ℕ)) (j : ℕ) → slice_get ps j ≡ Some (Some q) → ((k : ℕ) → slice_get ps k ≡ Some (Some q) → k ≡ j) → map (kept_at (set checks q one)) ps ≡ set (map (kept_at checks) ps) j (Some one)
     by [] j e once = absurd (none-some (Some q) e)
     by (p ∷ ps) zero e once =

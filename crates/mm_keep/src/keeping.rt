@@ -7,7 +7,8 @@ ghost use Rattle.mm_keep.specs.Code.{Next.{KeepsOrRuns, HasTop, IsBuilt, IsFirst
 
 use crate::kept::Checks;
 use crate::planning::{planned, run_rest};
-use mm_proof::{Base, Files, Names, Sparse, StoreError, Work};
+use mm_frame::Sparse;
+use mm_proof::{Base, Files, Names, StoreError, Work};
 use std::alloc::{AllocError, Global};
 
 /// What each item of a base keeps of what was checked before, what is checked of the others, and the record of these runs.

@@ -1,9 +1,11 @@
 //! What is kept of the checks of proofs.
 
 ghost use Rattle.std.specs.{Prelude.{◌≡◌, ◌<◌, ◌++◌, ◌∷◌, [], true, None, Some, IfOk, IfSome, OnOk, is_some, length, slice_index, slice_index_or, slice_set}, Option.{option_map}};
-ghost use Rattle.mm_keep.specs.Code.KeptCheck.{numbers_in, said};
+ghost use Rattle.mm_keep.specs.Code.KeptCheck.{kept_at, said};
 
-use mm_proof::{Checked, Sparse, Verdict, narrow};
+use mm_frame::Sparse;
+use mm_machine::narrow;
+use mm_proof::{Checked, Verdict};
 use std::alloc::{AllocError, Global};
 use std::marker::Model;
 use std::mem;
@@ -96,14 +98,23 @@ impl Model for Checks {
     ghost invariant = { ArePlaces };
 }
 
+/// What a place has, if there is one and something is there.
+fn kept_in(checks: &[Option<KeptCheck>], place: Option<usize>) -> Option<&KeptCheck>
+    ensures { option_map (λ check. check.now) result ≡ said (kept_at checks.now place) }
+{
+    checks.get(place?)?.as_ref()
+}
+
 impl Checks {
     /// No items, with room for this many, of which this many have a place.
     pub fn with_room(alloc: Global, items: usize, checks: usize) -> Result<Checks, AllocError>
         ensures { IfOk result (λ made. made ≡ []) }
     {
         let places = Sparse::with_room(alloc, items)?;
-        let checks = Vec::with_capacity(alloc, checks)?;
-        Ok(Checks { checks, places })
+        Ok(Checks {
+            checks: Vec::with_capacity(alloc, checks)?,
+            places,
+        })
     }
 
     /// The allocator that the lists are made on.
@@ -122,8 +133,7 @@ impl Checks {
     pub fn get(&self, i: usize) -> Option<&KeptCheck>
         ensures { option_map (λ check. check.now) result ≡ said (slice_index_or self.now i None) }
     {
-        let place = self.places.at(i)?;
-        self.checks.get(place)?.as_ref()
+        kept_in(&self.checks, self.places.at(i))
     }
 
     /// Adds one more item: with no place, with a free one, or with what its check said. Out of memory changes nothing.

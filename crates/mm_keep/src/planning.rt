@@ -6,8 +6,9 @@ ghost use Rattle.mm_keep.specs.Code.KeptSession.{AreChecked, IsKeptAt};
 ghost use Rattle.mm_keep.specs.Code.Planned.{AddsOne, AreBothRead, AreMarksBy, ArePlanned, AreRecorded, AreRunBy, CanBeCarried, CanCarry, HasItemBothRead, HasItemRead, IsPlanned, IsRunBy, RecordsIf};
 
 use crate::kept::{Checks, KeptCheck};
+use mm_frame::Sparse;
 use mm_proof::{
-    Base, Checker, Files, Marks, Names, Sparse, Work, labels_are_own, same_view_by, same_view_same_cites,
+    Base, Checker, Files, Marks, Names, Work, labels_are_own, same_view_by, same_view_same_cites,
     same_view_same_verdict,
 };
 use std::alloc::{AllocError, Global};
@@ -36,7 +37,8 @@ fn old_with_same_view(
     }
 }
 
-/// For each item of the new base the number of the item of the old one of which it keeps what was checked, if it keeps something.
+/// For each item of the new base the number of the item of the old one of which it keeps what was checked, if it keeps
+/// something.
 pub fn planned(
     alloc: Global,
     names: &Names,

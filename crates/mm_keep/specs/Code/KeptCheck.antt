@@ -1,5 +1,5 @@
 -- What is kept of the checks of proofs.
-use Rattle.std.specs.Prelude.{◌≡◌, ◌≤◌, ℕ, zero, suc, List, Option, Some, None, length, map, slice_get}
+use Rattle.std.specs.Prelude.{◌≡◌, ◌<◌, ℕ, List, Option, Some, None, length, map, slice_get}
 use Rattle.mm_proof.specs.mm_verdict.Language.Work.{Judgement}
 use Rattle.mm_keep.specs.declared.kept.KeptCheck.TheInside.{Inside as KeptCheck}
 use Rattle.mm_keep.specs.declared.kept.Checks.TheInside.{Inside}

@@ -1,4 +1,4 @@
-use Rattle.std.proofs.{Common.{◌∷◌, [], length, sym, ◌∙◌, ap, subst}, lemmas.List.{length_push}}
+use Rattle.std.proofs.{Common.{◌+◌, length, sym, ◌∙◌, ap, subst}, lemmas.List.{length_push}}
 use Rattle.mm_keep.{specs.Code.Planned.{IsPlanned}, proofs.PlanLemmas.{each_more}}
 use Rattle.mm_keep.proofs.planning.planned.Goals as goal
 

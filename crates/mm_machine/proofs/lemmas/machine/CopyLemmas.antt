@@ -1,5 +1,5 @@
 -- Copies of ranges of lists, and whether two ranges are the same.
-use Rattle.std.proofs.lemmas.Grind.{common_steps}
+use Rattle.std.proofs.lemmas.Grind.{elements, common_steps}
 use Rattle.std.proofs.lemmas.List.{append_assoc, map-append, take_more_set, map-set, length-map, take-take, take-map, drop-map, drop-take, drop-drop, drop_more, length-take-le, take_at}
 use Rattle.std.proofs.{lemmas.{List.{same_from_push}, Bool.{eq-eqb, ne_eqb}, Nat.{mod-pow-add}}, Math.Seq.{take-add, take-append-add}}
 use Rattle.std.proofs.Common.{rules, ◌≡◌, ℕ, zero, suc, ◌+◌, ◌-◌, ◌*◌, ◌%◌, ◌^◌, ◌<◌, ◌≤◌, ◌↔◌, not, eqb, List, [], ◌∷◌, ◌++◌, length, map, take, drop, set, get_or, min, sym, ◌∙◌, ap, arith, refl}

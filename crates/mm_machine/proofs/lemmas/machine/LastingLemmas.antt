@@ -8,10 +8,6 @@ use Rattle.mm_machine.{specs.declared.lasting.Pattern.{Pattern}, proofs.lemmas.m
 range_stays : {X : Type 0} (first last : ℕ) (xs more : List X) → first ≤ last → last ≤ length xs → range_of first last (xs ++ more) ≡ range_of first last xs
 range_stays first last xs more o l = ap (take (last - first)) (drop-append-le first xs more (omega arith)) ∙ take-append-le (last - first) (drop first xs) more (omega (arith, length-drop first xs))
 
--- the range of what is added
-range_added : {X : Type 0} (first last : ℕ) (old more all : List X) → all ≡ old ++ more → first ≡ length old → last ≡ length all → range_of first last all ≡ more
-range_added first last old more all e a b = grind (arith, common_steps, drop_at, length-append, take_all) steps 200000
-
 -- an expression reads the same if what is below its end is the same
 pub symbols_stay : (ground : ℕ) (symbols all : List Symbol) (p : Pattern) → take ground all ≡ take ground symbols → p.start ≤ p.end → p.end ≤ ground → pattern_symbols all p ≡ pattern_symbols symbols p
 symbols_stay ground symbols all p e o l = range_below all symbols ground p.start (p.end - p.start) (omega arith) e
@@ -52,7 +48,7 @@ module _ (ground : ℕ) (symbols all expression variables more all_variables : L
         within = omega arith;
         slots_in_order = omega (arith, first, last, ap length ss, length-append slots more_slots);
         slots_within = omega (arith, last);
-        slots_are = rw (is, range_added p.first p.last slots more_slots all_slots ss first last) are;
+        slots_are = grind (arith, common_steps, drop_at, length-append, take_all) steps 200000;
       }) (patterns_stay ground p.end symbols all variables more all_variables slots more_slots all_slots same (omega (arith, start, in_order)) vs ss ps were)
 
   pub expression_set : (n : ℕ) → map (lasting_at all) (set ps n p) ≡ set (map (lasting_at symbols) ps) n (record { floating = p.floating; expression = expression })

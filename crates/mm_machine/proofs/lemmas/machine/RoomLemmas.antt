@@ -4,10 +4,6 @@ use Rattle.std.proofs.lemmas.Grind.{common_steps, drop_more_same}
 use Rattle.std.proofs.lemmas.List.{map-set, take_more_set, length-map, get_or-drop, get_or-map, get_or-take, take_more, length-drop, drop-map, drop-set-lt, get_or_default, length-take, length-take-le}
 use Rattle.std.proofs.lemmas.List.{take-take, take_at, drop-take, drop_at, map-append, take-append-le}
 
--- one more is put behind the front
-put_one : {X Y : Type 0} (f : X → Y) (all : List X) (at n : ℕ) (x : X) → at + n < length all → take (at + (n + 1)) (map f (slice_set all (at + n) x)) ≡ take (at + n) (map f all) ++ f x ∷ []
-put_one f all at n x l = grind (arith, common_steps, map-set f all (at + n) x, take_more_set (map f all) (at + n) (f x), length-map all f) steps 200000
-
 -- one more of a list that is mapped
 pub map_next : {X Y : Type 0} (f : X → Y) (xs : List X) (n : ℕ) (x : X) → n < length xs → x ≡ get_or xs n x → take (n + 1) (map f xs) ≡ take n (map f xs) ++ f x ∷ []
 map_next f xs n x l e = grind (arith, common_steps, take_more (map f xs) n (f x), get_or-map f xs n x (f x), length-map xs f) steps 200000
@@ -15,7 +11,7 @@ map_next f xs n x l e = grind (arith, common_steps, take_more (map f xs) n (f x)
 -- a list is put behind the front, one by one
 pub put_next : {X Y : Type 0} (f : X → Y) (start : List Y) (put more : List Y) (all : List X) (at n : ℕ) (x : X) → at + n < length all → more ≡ put ++ f x ∷ []
     → take (at + n) (map f all) ≡ start ++ put → take (at + (n + 1)) (map f (slice_set all (at + n) x)) ≡ start ++ more
-put_next f start put more all at n x l m e = grind (arith, common_steps, put_one f all at n x l, append_assoc) steps 200000
+put_next f start put more all at n x l m e = grind (arith, common_steps, map-set, take_more_set, length-map) steps 200000
 
 -- one more of a range
 pub range_next : {X Y : Type 0} (f : X → Y) (xs : List X) (from n : ℕ) (x d : X) → from + n < length xs → f x ≡ f (get_or xs (from + n) d)

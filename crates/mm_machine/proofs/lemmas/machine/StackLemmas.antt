@@ -33,12 +33,6 @@ front_kept n before after es l e all =
     let cut = length-take-le n before l in
     read_all_kept (take n before) after es (λ k d i. let w = all k d i in omega (arith, cut)) (ap (λ k. take k after) cut ∙ e) ∙ cut_kept before n es l all
 
--- entries that end within the front, and one more
-pub added_by : (before after result : List Symbol) (f : ℕ) (es next : List Entry) (new : Entry) → f ≤ length before → take f after ≡ take f before → All (λ e. e.end ≤ f) es
-    → next ≡ es ++ new ∷ [] → read after new ≡ result → read_all after next ≡ read_all before es ++ result ∷ []
-added_by before after result f es next new l front all e is =
-    grind (arith, common_steps, front_kept f before after es l front all, map-append (read after) es (new ∷ [])) steps 200000
-
 -- the entries before a place end within the front
 ends_before : (f below : ℕ) (es : List Entry) → ((i : ℕ) (e : Entry) → i < below → slice_get es i ≡ Some e → (e.end ≤ f) × (e.floor ≤ f)) → All (λ e. e.end ≤ f) (take below es)
 ends_before f below es stays k d i = search (rules, get_or-take, length-take, slice_get-get_or)
@@ -47,7 +41,7 @@ ends_before f below es stays k d i = search (rules, get_or-take, length-take, sl
 pub replaced_by : (before after result : List Symbol) (f below : ℕ) (es next : List Entry) (new : Entry) → f ≤ length before → take f after ≡ take f before
     → ((i : ℕ) (e : Entry) → i < below → slice_get es i ≡ Some e → (e.end ≤ f) × (e.floor ≤ f)) → next ≡ take below es ++ new ∷ [] → read after new ≡ result →
     read_all after next ≡ take below (read_all before es) ++ result ∷ []
-replaced_by before after result f below es next new l front stays e is = search (rules, added_by, ends_before, take-map)
+replaced_by before after result f below es next new l front stays e is = search (rules, ends_before, take-map, front_kept, map-append)
 
 -- what is at a place of entries that were cut and got one more
 cut_or_last : (es : List Entry) (below k : ℕ) (new s : Entry) → below ≤ length es → slice_get (take below es ++ new ∷ []) k ≡ Some s → ((k < below) × (slice_get es k ≡ Some s)) ⊎ ((k ≡ below) × (new ≡ s))

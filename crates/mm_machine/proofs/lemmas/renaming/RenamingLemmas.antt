@@ -55,12 +55,9 @@ pub renaming_back : (to back : Symbol → Symbol) → IsRenaming to back → IsR
 renaming_back to back is = grind (arith, common_steps, is.kinds, is.again) steps 200000
 
 -- what steps expand to knows no symbols
-taken_renamed : (to : Symbol → Symbol) (r : LabelMeaning) → taken_by (renamed_meaning to r) ≡ taken_by r
-taken_renamed to r = grind (arith, common_steps) steps 200000
-
 weight_renamed : (to : Symbol → Symbol) (place : Setting) (labels : List (List ℕ)) → weight (renamed_setting to place) labels ≡ weight place labels
 weight_renamed to place [] = refl
-weight_renamed to place (label ∷ labels) = rw (taken_renamed to (place.resolve label), weight_renamed to place labels) refl
+weight_renamed to place (label ∷ labels) = grind (arith, common_steps, weight_renamed to place labels) steps 200000
 
 part_renamed : (to : Symbol → Symbol) (place : Setting) (labels : List (List ℕ)) → last_part (renamed_setting to place) labels ≡ last_part place labels
 part_renamed to place [] = refl

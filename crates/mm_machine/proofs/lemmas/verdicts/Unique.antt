@@ -97,10 +97,6 @@ same_result active frame stack next next' is m n =
     (is.expression_typed v w)) in
     cc
 
--- a label has one outcome
-pub same_next : (active : List (Symbol × Symbol)) (r : LabelMeaning) (stack next next' : List (List Symbol)) → ((frame : Frame) → r ≡ Assertion frame → IsFrame frame) → Moves active r stack next → Moves active r stack next' → next ≡ next'
-same_next active r stack next next' is m n = grind (arith, common_steps, same_result) steps 200000
-
 -- a join of no labels is of no expressions
 pub no_labels : {place : Setting} {labels : List (List ℕ)} (stack : List (List Symbol)) → DeriveInOrder place labels stack → labels ≡ [] → stack ≡ []
 no_labels [] d e = refl
@@ -112,7 +108,7 @@ last_of (first_then h t) = last_label h t
 
 -- one stack, given that the labels before the last reach one stack
 same_by_last : (place : Setting) → HasFrames place → {a b : List (List ℕ)} {xs ys : List (List Symbol)} → a ≡ b → (l : LastLabel place a xs) → (m : LastLabel place b ys) → (l.labels ≡ m.labels → l.stack ≡ m.stack) → xs ≡ ys
-same_by_last place is {xs = xs} {ys = ys} e l m same = search (rules, same_from_push, same_next) steps 200000
+same_by_last place is {xs = xs} {ys = ys} e l m same = search (rules, same_from_push, same_result)
 
 -- a list is a join in at most one way
 pub same_stack : (place : Setting) → HasFrames place → (n : ℕ) {a b : List (List ℕ)} (xs ys : List (List Symbol)) → length a ≤ n → a ≡ b → DeriveInOrder place a xs → DeriveInOrder place b ys → xs ≡ ys
