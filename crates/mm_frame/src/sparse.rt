@@ -1,6 +1,6 @@
 //! Numbers that some items have, and others do not.
 
-ghost use Rattle.std.specs.Prelude.{◌≡◌, ◌∷◌, ◌++◌, [], None, IfOk, OnErr, OnOk, length, replicate, slice_index_or};
+ghost use Rattle.std.specs.Prelude.{◌≡◌, ◌∷◌, ◌++◌, [], None, IfOk, OnErr, OnOk, length, slice_index_or};
 
 use mm_machine::narrow;
 use std::alloc::{AllocError, Global};
@@ -31,15 +31,6 @@ impl Sparse {
         ensures { IfOk result (λ sparse. sparse ≡ []) }
     {
         let codes = Vec::with_capacity(alloc, count)?;
-        Ok(Sparse { codes })
-    }
-
-    /// This many items, of which none has a number.
-    pub fn none(alloc: Global, count: usize) -> Result<Sparse, AllocError>
-        ensures { IfOk result (λ sparse. sparse ≡ replicate count None) }
-    {
-        let mut codes = Vec::new(alloc);
-        codes.resize(count, 0)?;
         Ok(Sparse { codes })
     }
 

@@ -1,11 +1,11 @@
 -- What a plan says of an item, and what is carried by it.
-use Rattle.std.proofs.{Common.{rules, arith, ◌≡◌, ℕ, true, false, Option, Some, None, List, [], ◌∷◌, ◌++◌, length, sym, ◌∙◌, ap, subst, slice_get}, lemmas.{Grind.{common_steps}, Bool.{false≢true}}}
-use Rattle.std.proofs.lemmas.Option.{none-some, same_Some}
+use Rattle.std.proofs.{Common.{rules, arith, ◌≡◌, ℕ, ◌+◌, ◌<◌, get_or, true, false, Option, Some, None, List, [], ◌∷◌, ◌++◌, length, sym, ◌∙◌, ap, subst}, lemmas.{Grind.{common_steps}, Bool.{false≢true}}}
+use Rattle.std.proofs.{lemmas.{Option.{none-some, same_Some}, List.{get_or_append_left}}, Math.Seq.{get_or-append_seam}}
+use native.Mathlib.Decide.{dec_lt}
 use Rattle.mm_proof.specs.{mm_store.Language.FilesView.{FilesView}, mm_frame.{Language.{Base.{BaseView, is_proof_at, is_shown_at}, Answering.{IsBaseBy}}, declared.base.Base.{Base}}}
 use Rattle.mm_proof.specs.{Language.{BaseMarks.{ItemMark, MarksView, IsMark, mark_at}, ViewLaws.{SameViewSameVerdict, SameViewSameCites}}, mm_verdict.Language.DecodingLaws.{LabelsAreOwn}}
 use Rattle.mm_proof.specs.mm_verdict.Language.View.{view_at, AreSameViews}
-use Rattle.mm_keep.specs.{Code.{KeptCheck.{Kept}, KeptSession.{IsKeptAt}, Planned.{AreBothRead, AreMarksBy, HasItemBothRead, IsPlanned, CanCarry}}, Language.Runs.{HasSameView}}
-use Rattle.mm_keep.proofs.RunLemmas.{get_front}
+use Rattle.mm_keep.specs.{Code.{KeptCheck.{Kept}, KeptSession.{IsKeptAt}, Planned.{AreBothRead, AreMarksBy, HasItemBothRead, IsPlanned, CanCarry, kept_by}}, Language.Runs.{HasSameView}}
 
 -- a theorem is a sound item with a label
 pub shown : (base : BaseView) (i : ℕ) → is_proof_at base i ≡ true → is_shown_at base i ≡ true
@@ -57,6 +57,13 @@ pub mark_here : (names : List (List ℕ)) (files : FilesView) (old new : Base) (
     → IsMark base copy j (mark_at marks j)
 mark_here names files old new marks j has are base copy both = search (rules, one_count)
 
--- what holds of each element, and of one more
-pub each_more : {X : Type 0} (P : ℕ → X → Type 0) (xs ys : List X) (y : X) → ys ≡ xs ++ y ∷ [] → ((k : ℕ) (x : X) → slice_get xs k ≡ Some x → P k x) → P (length xs) y → (k : ℕ) (x : X) → slice_get ys k ≡ Some x → P k x
-each_more {X} P xs ys y e each last k x is = grind (arith, common_steps, get_front) steps 200000
+-- what is planned for one item more
+pub planned_more : (P : ℕ → Option ℕ → Type 0) (plan all : List (Option ℕ)) (from : Option ℕ) (count : ℕ) → all ≡ plan ++ from ∷ [] → length plan ≡ count → ((k : ℕ) → k < count → P k (kept_by plan k)) → P count from
+    → (k : ℕ) → k < count + 1 → P k (kept_by all k)
+planned_more P plan all from count e long each last k l = elim (dec_lt k count) [
+  | yes m ↦ subst (P k) (sym (ap (λ w. get_or w k None) e ∙ get_or_append_left plan (from ∷ []) None k (omega (arith, long, m)))) (each k m)
+  | no n ↦
+      let here : count ≡ k = omega (arith, l, n) in
+      let is = ap (λ w. get_or w count None) e ∙ ap (λ m. get_or (plan ++ from ∷ []) m None) (sym long) ∙ get_or-append_seam plan from [] None in
+      subst (λ m. P m (kept_by all m)) here (subst (P count) (sym is) last)
+]

@@ -1,12 +1,12 @@
 -- Runs by a plan: one item more.
-use Rattle.std.proofs.Common.{rules, ◌≡◌, ℕ, ◌<◌, ◌≤◌, ◌+◌, ◌↔◌, ◌⊎◌, true, Option, Some, None, List, [], ◌∷◌, ◌++◌, length, get_or, replicate, sym, ◌∙◌, ap, subst, arith, inl, inr, slice_get}
-use Rattle.std.proofs.{Common.{Contains}, lemmas.{Grind.{common_steps}, Bool.{false≢true}, List.{length-replicate, length_push, get_or_append_left, get_or-replicate}}}
+use Rattle.std.proofs.Common.{rules, ◌≡◌, ℕ, ◌<◌, ◌≤◌, ◌+◌, ◌↔◌, ◌⊎◌, true, Option, Some, None, List, [], ◌∷◌, ◌++◌, length, get_or, refl, sym, ◌∙◌, subst, arith, inl, inr, slice_get}
+use Rattle.std.proofs.{Common.{Contains}, lemmas.{Grind.{common_steps}, Bool.{false≢true}, List.{length_push, get_or_append_left}}}
 use Rattle.std.proofs.lemmas.List.{Elements.{Contains-get_or, Contains-append_left, Contains-push, Contains-push_cases}, Quantifiers.{all_pairs_push}, Sums.{sum_by_push}}
-use Rattle.std.{proofs.{lemmas.Option.{get_or_from_slice_get, slice_get-get_or, slice_get_within, same_Some}, Math.Seq.{get_or-append_seam}}, specs.List.{AllZip}}
+use Rattle.std.{proofs.{lemmas.Option.{get_or_from_slice_get, slice_get-get_or, slice_get_within}, Math.Seq.{get_or-append_seam}}, specs.List.{AllZip}}
 use native.Mathlib.Decide.{dec_lt}
 use Rattle.mm_proof.specs.{mm_frame.Language.Base.{BaseView, is_proof_at}, mm_verdict.Language.{VerdictAt.{AreDoneAt}, Work.{Recorded}}}
-use Rattle.mm_keep.specs.{Language.Runs.{AreThose, AreRuns, AreStepsOf, IsRun}, Code.{KeptCheck.{Kept}, KeptSession.{AreChecked}}}
-use Rattle.mm_keep.specs.Code.Planned.{ArePlanned, IsRunBy, AreRunBy, RunsBy, AreRecorded, RecordsRun, RecordsIf}
+use Rattle.mm_keep.specs.{Language.Runs.{AreThose, AreRuns, AreStepsOf, HadView, IsRun}, Code.{KeptCheck.{Kept}}}
+use Rattle.mm_keep.specs.Code.Planned.{ArePlanned, IsPlanned, IsRunBy, AreRunBy, RunsBy, kept_by, AreRecorded, RecordsRun, RecordsIf}
 
 -- an element is in the list with one more, and is the last or one before it
 pub get_front : {X : Type 0} (xs : List X) (y : X) (k : ℕ) (x : X) → slice_get (xs ++ y ∷ []) k ≡ Some x → ((k < length xs) × (slice_get xs k ≡ Some x)) ⊎ ((k ≡ length xs) × (y ≡ x))
@@ -58,14 +58,11 @@ steps_more base runs total j count steps done = grind (arith, common_steps, zip_
 
 -- what one item more gives
 pub run_more : (new : BaseView) (plan : List (Option ℕ)) (checked : List Kept) (from : Option ℕ) (one : Kept)
-    → AreRunBy new plan checked → slice_get plan (length checked) ≡ Some from → IsRunBy new from (length checked) one
+    → AreRunBy new plan checked → kept_by plan (length checked) ≡ from → IsRunBy new from (length checked) one
     → AreRunBy new plan (checked ++ one ∷ [])
-run_more new plan checked from one ran there is = record {
-  within = let l = slice_get_within plan (length checked) from there in let n = length_push checked one in omega arith;
-  each = λ j other its e f. grind (arith, common_steps, get_front checked one j its f, ran.each j other its e, same_Some from other) steps 200000;
-}
+run_more new plan checked from one ran there is j other e = grind (arith, common_steps, get_front checked one j other e, ran j other) steps 200000
 
-none_not_some : (i : ℕ) (plan : List (Option ℕ)) (j : ℕ) → slice_get plan j ≡ Some (Some i) → slice_get plan j ≡ Some None → ⊥
+none_not_some : (i : ℕ) (plan : List (Option ℕ)) (j : ℕ) → kept_by plan j ≡ Some i → kept_by plan j ≡ None → ⊥
 none_not_some i plan j e f = let g = sym e ∙ f in cc
 
 recorded_skip : (new : BaseView) (plan : List (Option ℕ)) (j : ℕ) (before after : Recorded) → AreRecorded new plan j before → ¬ RunsBy new plan j → after ≡ before → AreRecorded new plan (j + 1) after
@@ -76,7 +73,7 @@ recorded_run new plan j before after are runs run =
     search (rules, steps_more new before.runs before.steps j run.count are.steps run.done, those_more (RunsBy new plan) j before.runs are.those runs)
 
 -- one item more is recorded, if it runs
-pub recorded_more : (new : BaseView) (plan : List (Option ℕ)) (j : ℕ) (from : Option ℕ) (before after : Recorded) → slice_get plan j ≡ Some from → RecordsIf new from j before after → AreRecorded new plan j before → AreRecorded new plan (j + 1) after
+pub recorded_more : (new : BaseView) (plan : List (Option ℕ)) (j : ℕ) (from : Option ℕ) (before after : Recorded) → kept_by plan j ≡ from → RecordsIf new from j before after → AreRecorded new plan j before → AreRecorded new plan (j + 1) after
 recorded_more new plan j (Some i) before after there e are = recorded_skip new plan j before after are (λ r. none_not_some i plan j there r.nothing) e
 recorded_more new plan j None before after there (inl p) are = recorded_run new plan j before after are (record { theorem = p.0; nothing = there }) p.1
 recorded_more new plan j None before after there (inr p) are = recorded_skip new plan j before after are (λ r. false≢true (sym p.0 ∙ r.theorem)) p.1
@@ -89,35 +86,19 @@ takes new from j before after e = grind (arith, common_steps) steps 200000
 those_same : (P Q : ℕ → Type 0) (n : ℕ) (numbers : List ℕ) → AreThose P n numbers → ((k : ℕ) → k < n → P k ↔ Q k) → AreThose Q n numbers
 those_same P Q n numbers those same = those_moved P Q n n numbers those (λ k l p. (l, (same k l).0 p)) (λ k l q. (l, (same k l).1 q))
 
--- an item keeps nothing by a plan that keeps nothing
-pub keeps_nothing : (plan : List (Option ℕ)) (count : ℕ) → plan ≡ replicate count None → (k : ℕ) (from : Option ℕ) → slice_get plan k ≡ Some from → from ≡ None
-keeps_nothing plan count e k from is =
-    let there : slice_get (replicate count None) k ≡ Some from = ap (λ (xs : List (Option ℕ)). slice_get xs k) (sym e) ∙ is in
-    let long : length plan ≡ count = ap length e ∙ length-replicate count None in
-    let within : k < count = let w = slice_get_within plan k from is in omega arith in
-    sym (get_or_from_slice_get (replicate count None) k from None there) ∙ get_or-replicate count k None None within
-
 -- what runs by a plan that keeps nothing is each theorem
-pub begun_runs : (base : BaseView) (plan : List (Option ℕ)) (runs : List ℕ) → length plan ≡ length base → ((k : ℕ) (from : Option ℕ) → slice_get plan k ≡ Some from → from ≡ None) → AreThose (RunsBy base plan) (length plan) runs
-    → AreThose (λ i. is_proof_at base i ≡ true) (length base) runs
-begun_runs base plan runs count none those =
-    those_same (RunsBy base plan) (λ i. is_proof_at base i ≡ true) (length base) runs (subst (λ n. AreThose (RunsBy base plan) n runs) count those)
-    (λ k l. grind (arith, common_steps, slice_get-get_or plan k None, none k (get_or plan k None)) steps 200000)
-
--- what is checked by it is each theorem
-pub begun_checked : (base : BaseView) (plan : List (Option ℕ)) (checked : List Kept) → length plan ≡ length base
-    → ((k : ℕ) (from : Option ℕ) → slice_get plan k ≡ Some from → from ≡ None) → AreRunBy base plan checked → length checked ≡ length plan
-    → AreChecked base checked
-begun_checked base plan checked count none ran long = record {
-  count = long ∙ count;
-  each = λ i one e. grind (arith, common_steps, slice_get_within checked i one e, slice_get-get_or plan i None, none i (get_or plan i None), ran.each i None one) steps 200000;
-}
+pub begun_runs : (base : BaseView) (runs : List ℕ) → AreThose (RunsBy base []) (length base) runs → AreThose (λ i. is_proof_at base i ≡ true) (length base) runs
+begun_runs base runs those =
+    those_same (RunsBy base []) (λ i. is_proof_at base i ≡ true) (length base) runs those (λ k l. (λ r. r.theorem, λ p. record { theorem = p; nothing = refl }))
 
 -- what runs by a plan is what the old base had no equal view of
-pub planned_runs : (old base : BaseView) (plan : List (Option ℕ)) (runs : List ℕ) → ArePlanned old base plan → AreThose (RunsBy base plan) (length plan) runs → AreRuns old base runs
+pub planned_runs : (old base : BaseView) (plan : List (Option ℕ)) (runs : List ℕ) → ArePlanned old base plan → AreThose (RunsBy base plan) (length base) runs → AreRuns old base runs
 planned_runs old base plan runs planned those =
-    those_same (RunsBy base plan) (IsRun old base) (length base) runs (subst (λ n. AreThose (RunsBy base plan) n runs) planned.count those)
-    (λ k l. (
-      λ r. record { theorem = r.theorem; changed = planned.each k None r.nothing },
-      λ r. record { theorem = r.theorem; nothing = grind (arith, planned.count, slice_get-get_or plan k None, planned.each k (get_or plan k None)) steps 200000 },
+    those_same (RunsBy base plan) (IsRun old base) (length base) runs those (λ k l. (
+      λ r. record { theorem = r.theorem; changed = subst (IsPlanned old base k) r.nothing (planned k l) },
+      λ r. record { theorem = r.theorem; nothing = nothing k (kept_by plan k) (planned k l) r.changed },
     ))
+  where
+    nothing : (k : ℕ) (from : Option ℕ) → IsPlanned old base k from → ¬ HadView old base k → from ≡ None
+    nothing k None is not = refl
+    nothing k (Some i) is not = absurd (not (i, is))

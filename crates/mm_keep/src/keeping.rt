@@ -115,7 +115,7 @@ fn run_all(alloc: Global, names: &Names, files: &Files, base: &Base) -> Result<R
     requires { (view : BaseView) × IsReadIn names.now files.now base.now view }
     ensures { IfOk result (λ ran. (view : BaseView) → IsReadIn names.now files.now base.now view → RunsAll view ran) }
 {
-    let plan = Sparse::none(alloc, base.count())?;
+    let plan = Sparse::with_room(alloc, 0)?;
     let (checked, work) = run_rest(alloc, names, files, base, &plan)?;
     Ok(Ran {
         plan,

@@ -141,10 +141,10 @@ pub fn run_rest(
     base: &Base,
     plan: &Sparse,
 ) -> Result<(Checks, Work), AllocError>
-    requires read { (view : BaseView) × IsReadIn names.now files.now base.now view × (length plan.now ≡ length view) }
+    requires read { (view : BaseView) × IsReadIn names.now files.now base.now view }
     ensures checked { IfOk result (λ run. (view : BaseView) → IsReadIn names.now files.now base.now view
-        → AreRunBy view plan.now run.0 × (length run.0 ≡ length plan.now)) }
-    ensures work { IfOk result (λ run. (view : BaseView) → IsReadIn names.now files.now base.now view → AreRecorded view plan.now (length plan.now) run.1) }
+        → AreRunBy view plan.now run.0 × (length run.0 ≡ length view)) }
+    ensures work { IfOk result (λ run. (view : BaseView) → IsReadIn names.now files.now base.now view → AreRecorded view plan.now (length view) run.1) }
 {
     let source = Source { names, files, base };
     let count = base.count();

@@ -24,7 +24,7 @@ pub record IsBuilt (names : List (List ℕ)) (files : FilesView) (top : List ℕ
 pub record KeepsOrRuns (old base : BaseView) (run : Ran) : Type 0 where
   pub planned : ArePlanned old base run.plan
   pub ran : AreRunBy base run.plan run.checked
-  pub count : length run.checked ≡ length run.plan
+  pub count : length run.checked ≡ length base
   pub runs : AreRuns old base run.work.runs
   pub steps : AreStepsOf base run.work.runs run.work.steps
 

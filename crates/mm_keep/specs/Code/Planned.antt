@@ -1,5 +1,5 @@
 -- Which theorems of a new base keep what was checked in an old one, and what the runs of the others come to.
-use Rattle.std.specs.Prelude.{◌≡◌, ◌≤◌, ◌<◌, ◌+◌, ◌⊎◌, ℕ, true, false, Option, Some, None, List, [], ◌∷◌, ◌++◌, length, slice_get}
+use Rattle.std.specs.Prelude.{◌≡◌, ◌≤◌, ◌<◌, ◌+◌, ◌⊎◌, ℕ, true, false, Option, Some, None, List, [], ◌∷◌, ◌++◌, length, slice_get, slice_index_or}
 use Rattle.mm_proof.specs.mm_store.Language.FilesView.{FilesView}
 use Rattle.mm_proof.specs.mm_frame.Language.Base.{BaseView, AreLabelled, is_proof_at}
 use Rattle.mm_proof.specs.mm_frame.declared.base.Base.{Base}
@@ -18,10 +18,13 @@ abbrev pub IsPlanned : BaseView → BaseView → ℕ → Option ℕ → Type 0
 IsPlanned old new j (Some i) = HasSameView old new i j
 IsPlanned old new j None = ¬ HadView old new j
 
+-- what an item keeps by a plan, which may end before it: then it keeps nothing
+abbrev pub kept_by : List (Option ℕ) → ℕ → Option ℕ
+kept_by plan j = slice_index_or plan j None
+
 -- there is such a plan for each item of the new base
-pub record ArePlanned (old new : BaseView) (plan : List (Option ℕ)) : Type 0 where
-  pub count : length plan ≡ length new
-  pub each : (j : ℕ) (from : Option ℕ) → slice_get plan j ≡ Some from → IsPlanned old new j from
+abbrev pub ArePlanned : BaseView → BaseView → List (Option ℕ) → Type 0
+ArePlanned old new plan = (j : ℕ) → j < length new → IsPlanned old new j (kept_by plan j)
 
 -- what is kept of item j before anything is carried, by the plan: a free place, if it keeps what was checked before; else what its run says
 abbrev pub IsRunBy : BaseView → Option ℕ → ℕ → Kept → Type 0
@@ -33,14 +36,13 @@ abbrev pub AddsOne : List Kept → List Kept → (Kept → Type 0) → Type 0
 AddsOne before after holds = (one : Kept) × (after ≡ before ++ one ∷ []) × holds one
 
 -- the first items have such results
-pub record AreRunBy (new : BaseView) (plan : List (Option ℕ)) (checked : List Kept) : Type 0 where
-  pub within : length checked ≤ length plan
-  pub each : (j : ℕ) (from : Option ℕ) (one : Kept) → slice_get plan j ≡ Some from → slice_get checked j ≡ Some one → IsRunBy new from j one
+abbrev pub AreRunBy : BaseView → List (Option ℕ) → List Kept → Type 0
+AreRunBy new plan checked = (j : ℕ) (one : Kept) → slice_get checked j ≡ Some one → IsRunBy new (kept_by plan j) j one
 
 -- the item is a sound theorem that keeps nothing
 pub record RunsBy (new : BaseView) (plan : List (Option ℕ)) (j : ℕ) : Type 0 where
   pub theorem : is_proof_at new j ≡ true
-  pub nothing : slice_get plan j ≡ Some None
+  pub nothing : kept_by plan j ≡ None
 
 -- the runs of the first items, by the plan, are recorded
 pub record AreRecorded (new : BaseView) (plan : List (Option ℕ)) (count : ℕ) (work : Recorded) : Type 0 where
@@ -85,7 +87,7 @@ pub record CanCarry (base copy : BaseView) (checked : List Kept) (plan : List (O
   pub planned : ArePlanned base copy plan
   pub was : AreChecked base checked
   pub ran_is : AreRunBy copy plan ran
-  pub count : length ran ≡ length plan
+  pub count : length ran ≡ length copy
 
 -- there are two bases of which what was checked can be carried like this
 abbrev pub CanBeCarried : List Kept → List (Option ℕ) → List Kept → Type 0
