@@ -1,10 +1,11 @@
 -- What is carried so far.
 use Rattle.std.proofs.lemmas.{Grind.{common_steps}, Bool.{false≢true}, Option.{get_or_from_slice_get, slice_get-get_or, slice_get_within}}
-use Rattle.std.proofs.Common.{◌≡◌, ◌≢◌, ℕ, true, is_some, ◌<◌, ◌≤◌, ◌+◌, Option, Some, None, List, length, get_or, set, refl, sym, ◌∙◌, ap, subst, arith, length-set, get_or-set_other}
-use Rattle.std.proofs.Common.{get_or-set_same, slice_get}
+use Rattle.std.proofs.Common.{◌≡◌, ◌≢◌, ℕ, true, is_some, ◌<◌, ◌≤◌, ◌+◌, Option, Some, None, List, length, get_or, set, refl, sym, ◌∙◌, ap, subst, arith, length-set, get_or-set_other, get_or-set_same}
+use Rattle.std.proofs.Common.{slice_get}
 use native.Mathlib.Decide.{dec_lt}
 use Rattle.mm_proof.specs.{mm_frame.Language.Base.{BaseView, is_proof_at}, mm_verdict.Language.DecodingLaws.{LabelsAreOwn}, Language.ViewLaws.{SameViewSameVerdict, SameViewSameCites}}
-use Rattle.mm_keep.{specs.{Code.{KeptCheck.{Kept}, KeptSession.{IsKeptAt, AreChecked}, Planned.{IsPlanned, IsRunBy, CanCarry, kept_by}}, Language.Runs.{HasSameView}}, proofs.PlanLemmas.{checked_same, kept_by_one}}
+use Rattle.mm_keep.specs.{Code.{KeptCheck.{Kept}, KeptSession.{IsKeptAt, AreChecked}, Planned.{IsPlanned, IsRunBy, CanCarry, kept_by}}, Language.Runs.{HasSameView}}
+use Rattle.mm_keep.proofs.PlanLemmas.{checked_same, kept_by_one}
 
 -- the first items of the new list are checked, the others are as the runs gave them, and what they keep is where it was
 pub record AreCarried (base copy : BaseView) (plan : List (Option ℕ)) (count : ℕ) (old new : List Kept) : Type 0 where
@@ -74,7 +75,7 @@ old_some base copy checked plan ran can j i old new are w there long =
 
 pub new_some : (base copy : BaseView) (plan : List (Option ℕ)) (j i : ℕ) (old new : List Kept) → AreCarried base copy plan j old new → kept_by plan j ≡ Some i
     → j < length new → is_some (get_or new j None) ≡ true
-new_some base copy plan j i old new are there l = 
+new_some base copy plan j i old new are there l =
     ap is_some (subst (λ from. IsRunBy copy from j (get_or new j None)) there (are.rest j (get_or new j None) (omega arith) (slice_get-get_or new j None l)))
 
 -- one item more is carried, if it keeps something

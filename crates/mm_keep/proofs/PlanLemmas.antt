@@ -1,6 +1,6 @@
 -- What a plan says of an item, and what is carried by it.
-use Rattle.std.proofs.{Common.{rules, arith, ◌≡◌, ℕ, ◌+◌, ◌<◌, get_or, true, false, Option, Some, None, List, [], ◌∷◌, ◌++◌, length, sym, ◌∙◌, ap, subst}, lemmas.{Grind.{common_steps}, Bool.{false≢true}}}
-use Rattle.std.proofs.{lemmas.{Option.{none-some, same_Some}, List.{get_or_append_left}}, Math.Seq.{get_or-append_seam}}
+use Rattle.std.proofs.{Common.{rules, arith, ◌≡◌, ℕ, ◌+◌, ◌<◌, get_or, true, false, Option, Some, None, List, [], ◌∷◌, ◌++◌, length, sym, ◌∙◌, ap, subst}, lemmas.Grind.{common_steps}}
+use Rattle.std.proofs.{lemmas.{Bool.{false≢true}, Option.{none-some, same_Some}, List.{get_or_append_left}}, Math.Seq.{get_or-append_seam}}
 use native.Mathlib.Decide.{dec_lt}
 use Rattle.mm_proof.specs.{mm_store.Language.FilesView.{FilesView}, mm_frame.{Language.{Base.{BaseView, is_proof_at, is_shown_at}, Answering.{IsBaseBy}}, declared.base.Base.{Base}}}
 use Rattle.mm_proof.specs.{Language.{BaseMarks.{ItemMark, MarksView, IsMark, mark_at}, ViewLaws.{SameViewSameVerdict, SameViewSameCites}}, mm_verdict.Language.DecodingLaws.{LabelsAreOwn}}

@@ -1,11 +1,11 @@
 -- Runs by a plan: one item more.
-use Rattle.std.proofs.Common.{rules, ◌≡◌, ℕ, ◌<◌, ◌≤◌, ◌+◌, ◌↔◌, ◌⊎◌, true, Option, Some, None, List, [], ◌∷◌, ◌++◌, length, get_or, refl, sym, ◌∙◌, subst, arith, inl, inr, slice_get}
-use Rattle.std.proofs.{Common.{Contains}, lemmas.{Grind.{common_steps}, Bool.{false≢true}, List.{length_push, get_or_append_left}}}
-use Rattle.std.proofs.lemmas.List.{Elements.{Contains-get_or, Contains-append_left, Contains-push, Contains-push_cases}, Quantifiers.{all_pairs_push}, Sums.{sum_by_push}}
-use Rattle.std.{proofs.{lemmas.Option.{get_or_from_slice_get, slice_get-get_or, slice_get_within}, Math.Seq.{get_or-append_seam}}, specs.List.{AllZip}}
+use Rattle.std.proofs.Common.{rules, ◌≡◌, ℕ, ◌<◌, ◌≤◌, ◌+◌, ◌↔◌, ◌⊎◌, true, Option, Some, None, List, [], ◌∷◌, ◌++◌, length, get_or, refl, sym, ◌∙◌, subst, arith, inl, inr, slice_get, Contains}
+use Rattle.std.proofs.lemmas.{Grind.{common_steps}, Bool.{false≢true}, List.{length_push, get_or_append_left, Elements.{Contains-get_or, Contains-append_left, Contains-push, Contains-push_cases}}}
+use Rattle.std.proofs.{lemmas.{List.{Quantifiers.{all_pairs_push}, Sums.{sum_by_push}}, Option.{get_or_from_slice_get, slice_get-get_or, slice_get_within}}, Math.Seq.{get_or-append_seam}}
+use Rattle.std.specs.List.{AllZip}
 use native.Mathlib.Decide.{dec_lt}
 use Rattle.mm_proof.specs.{mm_frame.Language.Base.{BaseView, is_proof_at}, mm_verdict.Language.{VerdictAt.{AreDoneAt}, Work.{Recorded}}}
-use Rattle.mm_keep.specs.{Language.Runs.{AreThose, AreRuns, AreStepsOf, HadView, IsRun}, Code.{KeptCheck.{Kept}}}
+use Rattle.mm_keep.specs.{Language.Runs.{AreThose, AreRuns, AreStepsOf, HadView, IsRun}, Code.KeptCheck.{Kept}}
 use Rattle.mm_keep.specs.Code.Planned.{ArePlanned, IsPlanned, IsRunBy, AreRunBy, RunsBy, kept_by, AreRecorded, RecordsRun, RecordsIf}
 
 -- an element is in the list with one more, and is the last or one before it
