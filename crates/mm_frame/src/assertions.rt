@@ -8,11 +8,11 @@ ghost use Rattle.mm_frame.specs.Code.LastItems.{is_disjoint_item};
 ghost use Rattle.mm_statement.specs.Language.Item as meant;
 
 use crate::active_items::TakenItem;
-use crate::copied_lists::CopiedLists;
 use crate::earlier::Earlier;
 use crate::expressions::Expressions;
 use crate::frame::Frame;
 use crate::frames::Frames;
+use crate::guesses::ListGuesses;
 use crate::mandatory::{FrameRoom, mandatory_pairs, put_hypotheses};
 use crate::pair_lists::{PairLists, count_to_last};
 use crate::sparse::Sparse;
@@ -31,8 +31,8 @@ pub struct Assertions {
     pub pair_numbers: Sparse,
     /// What the frames are made with.
     pub room: FrameRoom,
-    /// Which lists of an older base are taken over.
-    pub copied: CopiedLists,
+    /// For the lists of an older base, by their numbers there, a `$p` that was taken over and may have that list.
+    pub copied: ListGuesses,
 }
 
 /// Whether such an item has a frame.
@@ -116,12 +116,13 @@ impl Assertions {
         let frames = Frames::with_room(alloc, count)?;
         let pair_numbers = Sparse::with_room(alloc, count)?;
         let pair_lists = PairLists::with_room(alloc, count)?;
+        let copied = ListGuesses::with_room(alloc, count)?;
         Ok(Assertions {
             frames,
             pair_lists,
             pair_numbers,
             room: FrameRoom::new(alloc),
-            copied: CopiedLists::new(alloc),
+            copied,
         })
     }
 

@@ -1,4 +1,4 @@
-//! Guesses of the numbers of lists of symbols.
+//! Guesses of the numbers of lists, or of items that have them.
 
 use mm_machine::{NumberedSymbol, narrow};
 use std::alloc::{AllocError, Global};
@@ -7,7 +7,8 @@ use std::alloc::{AllocError, Global};
 /// occurred in an earlier item.
 const MOST_GUESSES: usize = 65_536;
 
-/// Numbers of lists of symbols, each kept at a place that the symbols of its list give; another list may give the same place.
+/// Numbers of lists, or of items that have them, each kept at a place that its list gives; another list may give the same
+/// place.
 ///
 /// What is guessed is compared, so that no answer depends on it.
 #[derive(Drop)]
@@ -66,8 +67,8 @@ impl ListGuesses {
         self.place(hash)
     }
 
-    /// The place for this number.
-    fn place(&self, hash: usize) -> usize {
+    /// Where the guess for a number is kept.
+    pub fn place(&self, hash: usize) -> usize {
         let places = self.numbers.len();
         if places == 0 { 0 } else { hash % places }
     }

@@ -11,7 +11,6 @@ mod base;
 mod blocks;
 mod build;
 mod codes;
-mod copied_lists;
 mod draft;
 mod earlier;
 mod essential;

@@ -9,10 +9,10 @@ ghost use Rattle.mm_statement.specs.Language.Item as meant;
 
 use crate::assertions::Assertions;
 use crate::base::Base;
-use crate::copied_lists::CopiedLists;
 use crate::expressions::Expressions;
 use crate::frame::Frame;
 use crate::frames::Frames;
+use crate::guesses::ListGuesses;
 use crate::pair_lists::{PairLists, count_to_last};
 use crate::sparse::Sparse;
 use mm_machine::NumberedSymbol;
@@ -67,13 +67,13 @@ struct OldProof<'a> {
 }
 
 /// The number of the list of an earlier `$p`, if one is known that shares its list with the `$p` of the older base.
-fn shared_list(numbers: &Sparse, copied: &CopiedLists, proof: OldProof) -> Option<usize>
+fn shared_list(numbers: &Sparse, copied: &ListGuesses, proof: OldProof) -> Option<usize>
     ensures { IfSome result (λ k. (all : List (List ℕ)) (lists : PairLists) (base : BaseView) (said : List meant.Said) → IsBaseBy all base proof.entry.base.now
         → AreFirst base said → proof.entry.number ≡ length said → is_proof_at base proof.entry.number ≡ true → AreRows (TellsPairs all lists) said numbers.now
         → IsList all lists k (active_pairs (sound_items said))) }
 {
     let list = proof.base.list_number(proof.number)?;
-    let earlier = copied.guess(list);
+    let earlier = copied.guess(copied.place(list));
     let k = numbers.at(earlier)?;
     if proof.base.list_number(earlier)? == list {
         Some(k)
@@ -86,7 +86,7 @@ fn shared_list(numbers: &Sparse, copied: &CopiedLists, proof: OldProof) -> Optio
 fn copied_list(
     alloc: Global,
     lists: &mut PairLists,
-    copied: &mut CopiedLists,
+    copied: &mut ListGuesses,
     numbers: &Sparse,
     proof: OldProof,
 ) -> Result<usize, AllocError>
@@ -102,7 +102,7 @@ fn copied_list(
     }
     let k = lists.lists.keep_copy(alloc, proof.pairs)?;
     if let Some(list) = proof.base.list_number(proof.number) {
-        copied.set(list, proof.number)?;
+        copied.keep(copied.place(list), proof.number);
     }
     Ok(k)
 }
@@ -112,7 +112,7 @@ fn copied_list(
 fn list_again(
     alloc: Global,
     lists: &mut PairLists,
-    copied: &mut CopiedLists,
+    copied: &mut ListGuesses,
     numbers: &Sparse,
     active: ActiveDisjoints,
     proof: OldProof,
@@ -143,7 +143,7 @@ fn list_again(
 fn copy_pairs(
     alloc: Global,
     lists: &mut PairLists,
-    copied: &mut CopiedLists,
+    copied: &mut ListGuesses,
     numbers: &mut Sparse,
     active: ActiveDisjoints,
     old: OldItem,
