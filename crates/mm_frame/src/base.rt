@@ -5,7 +5,7 @@ ghost use Rattle.mm_statement.specs.Language.{Item.{is_labelled}, Statement.{kin
 ghost use Rattle.mm_machine.specs.Language.{Frame.{AreSamePairs}, NumberedSymbols.{symbols_of, kept_pairs, AreInOrder, IsNumbered, IsPairNumbered, ArePairsRead}};
 ghost use Rattle.mm_frame.specs.Language.Framing.{active_pairs, expression, mandatory_numbers, resolve};
 ghost use Rattle.mm_frame.specs.Language.Base.{BaseView, AreHypotheses, ShareMandatory, before, said_at, fault_at, expression_at, frame_at, is_proof_at, is_framed_at, is_shown_at, is_sound_at};
-ghost use Rattle.mm_frame.specs.{Language.{Answering.{HasNumber, IsBase, IsBaseBy, pairs_in_order}, Resolving.{IsCarrier, IsMeaning, IsUpTo, Resolves}}, Code.KeptSymbols.{expression_kept}};
+ghost use Rattle.mm_frame.specs.{Language.{Answering.{HasNumber, IsBase, IsBaseBy, pairs_in_order}, Resolving.{IsCarrier, IsMeaning, IsUpTo, Resolves}}, Code.KeptLists.{item_list}};
 ghost use Rattle.mm_frame.specs.Code.KeptBase.{hypotheses_at};
 ghost use Rattle.mm_statement.specs.Language.Item as meant;
 ghost use Rattle.mm_frame.specs.declared.base.Resolved.TheVariants as answers;
@@ -70,7 +70,7 @@ impl Base {
 
     /// The symbols that are kept of the item with this number: none if none are kept.
     fn symbols(&self, i: usize) -> &[NumberedSymbol]
-        ensures { result.now ≡ expression_kept self.now.expressions i }
+        ensures { result.now ≡ item_list self.now.expressions i }
     {
         self.parts.expressions.at(i)
     }

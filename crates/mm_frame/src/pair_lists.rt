@@ -1,7 +1,7 @@
 //! The lists of active pairs, each made from that of the outer `$d`.
 
 ghost use Rattle.std.specs.{Prelude.{◌≡◌, ◌<◌, ◌≤◌, ◌+◌, ◌-◌, ◌++◌, ℕ, List, [], OnOk, IfOk, IfSome, IsTrue, Contains, length, map, take}, List.{flat_map}};
-ghost use Rattle.mm_frame.specs.{Language.{Sound.{AreSound}, Framing.{active_pairs}, Scope.{active_numbers}}, Code.{LastItems.{is_disjoint_item}, KeptSymbols.{AreSymbols, expression_kept}}};
+ghost use Rattle.mm_frame.specs.{Language.{Sound.{AreSound}, Framing.{active_pairs}, Scope.{active_numbers}}, Code.{LastItems.{is_disjoint_item}, KeptSymbols.{AreSymbols}, KeptLists.{item_list}}};
 ghost use Rattle.mm_frame.specs.Code.{KeptPairLists.{AreFrontNumbers, pairs_among, with_low_first}, KeptSortedLists.{HasEach}};
 ghost use Rattle.mm_machine.specs.Language.{Frame.{Symbol as Meaning}, NumberedSymbols.{AreSamePairsRead}};
 ghost use Rattle.mm_statement.specs.Language.Item as meant;
@@ -72,7 +72,7 @@ fn add_pairs_at(
     number: usize,
     pairs: &mut Vec<(NumberedSymbol, NumberedSymbol)>,
 ) -> Result<(), AllocError>
-    ensures { OnOk result (pairs.new.items ≡ pairs.old.items ++ pairs_among (expression_kept expressions.now number)) }
+    ensures { OnOk result (pairs.new.items ≡ pairs.old.items ++ pairs_among (item_list expressions.now number)) }
 {
     add_pairs_of(expressions.at(number), pairs)
 }
@@ -94,7 +94,7 @@ fn pairs_at(
     disjoints: &[usize],
     expressions: &Expressions,
 ) -> Result<Vec<(NumberedSymbol, NumberedSymbol)>, AllocError>
-    ensures { IfOk result (λ pairs. pairs.items ≡ flat_map (λ n. pairs_among (expression_kept expressions.now n)) disjoints.now) }
+    ensures { IfOk result (λ pairs. pairs.items ≡ flat_map (λ n. pairs_among (item_list expressions.now n)) disjoints.now) }
 {
     let mut pairs = Vec::with_capacity(alloc, pair_count(disjoints, expressions))?;
     for number in disjoints {
@@ -234,7 +234,7 @@ impl PairLists {
         expressions: &Expressions,
     ) -> Result<usize, AllocError>
         ensures pairs { IfOk result (λ k. (all : List (List ℕ)) (said added : List (Meaning × Meaning)) → IsList all self.old base said
-            → AreSamePairsRead all added (flat_map (λ n. pairs_among (expression_kept expressions.now n)) own.now) → IsList all self.new k (said ++ added)) }
+            → AreSamePairsRead all added (flat_map (λ n. pairs_among (item_list expressions.now n)) own.now) → IsList all self.new k (said ++ added)) }
         ensures kept { OnOk result (KeepsLists self.old self.new) }
         ensures made { OnOk result (self.new.made ≡ self.old.made) }
     {

@@ -127,12 +127,8 @@ fn ask(
         return Ok(true);
     }
     let common = first_common(blocks, row, other, known.upto);
-    asked.keep(Answer {
-        first,
-        second,
-        upto: end_of(row),
-        common,
-    })?;
+    let upto = end_of(row);
+    asked.keep(first, second, Answer { upto, common })?;
     Ok(common.is_some())
 }
 

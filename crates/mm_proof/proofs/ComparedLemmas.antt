@@ -1,9 +1,9 @@
 -- What was compared of two bases holds of all items that have the numbers of those that were compared.
 use Rattle.std.proofs.{Common.{arith, ◌≡◌, ℕ, HashMap, cond, Bool, true, false, Option, Some, List, refl, sym, ◌∙◌, subst}, lemmas.{Grind.{common_steps}, Bool.{and_parts}, Option.{same_Some}}}
 use Rattle.std.specs.{HashMap.{get}, Prelude.{◌↔◌, nat_eq}}
-use Rattle.mm_frame.specs.Language.{Base.{BaseView, ShareMandatory, before, frame_at, is_framed_at, is_proof_at, is_shown_at}, Answering.{HasNumber, IsBase}, Framing.{active_pairs}}
+use Rattle.mm_frame.specs.Language.{Base.{BaseView, ShareMandatory, before, frame_at, is_framed_at, is_proof_at, is_shown_at}, Answering.{HasNumber, IsBase, same_numbers}, Framing.{active_pairs}}
 use Rattle.mm_frame.specs.declared.base.Base.{Base}
-use Rattle.mm_proof.{specs.Code.KeptMarks.{AreTheorems, IsAnswered, OfBases, ShareFrame, SharePairs, same_numbers}, proofs.{KeptMarkLemmas.{joined, turned}, TheoremLemmas.{shown_framed}}}
+use Rattle.mm_proof.{specs.Code.KeptMarks.{AreTheorems, IsAnswered, OfBases, ShareFrame, SharePairs}, proofs.{KeptMarkLemmas.{joined, turned}, TheoremLemmas.{shown_framed}}}
 
 -- items share something the other way round, and one after the other
 pub record IsShared (Share : BaseView → BaseView → ℕ → ℕ → Type 0) : Type 0 where

@@ -5,7 +5,7 @@ use Rattle.mm_frame.specs.declared.places.Places.{Places}
 use Rattle.mm_machine.specs.declared.symbol.NumberedSymbol.{NumberedSymbol}
 use Rattle.mm_frame.specs.Language.Marks.{Mark}
 use Rattle.mm_frame.specs.Code.BlockMarks.{stays_by}
-use Rattle.mm_frame.specs.Code.KeptSymbols.{expression_kept}
+use Rattle.mm_frame.specs.Code.KeptLists.{item_list}
 
 -- the place that is kept for the name with a number
 abbrev pub place_of : Places → ℕ → Option ℕ
@@ -23,7 +23,7 @@ later_place places from symbol = filter (nat_lt from) (option_to_list (place_of 
 -- the places after this one of the variables of an active `$d`
 abbrev pub later_places_at : Places → List Mark → List (List NumberedSymbol) → ℕ → ℕ → List ℕ
 later_places_at places marks expressions from n =
-    if stays_by (drop (suc n) marks) then flat_map (later_place places from) (expression_kept expressions n) else []
+    if stays_by (drop (suc n) marks) then flat_map (later_place places from) (item_list expressions n) else []
 
 -- the pair of a variable with the one at a place
 abbrev pub pair_at : NumberedSymbol → List NumberedSymbol → ℕ → List (NumberedSymbol × NumberedSymbol)

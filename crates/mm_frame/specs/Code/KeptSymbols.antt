@@ -23,25 +23,21 @@ symbol_by tables n = record { name = n; variable = not (is_constant_as (declared
 abbrev pub variable_by : ℕ → NumberedSymbol
 variable_by n = record { name = n; variable = true }
 
--- the symbols that are kept for the item with this number: none if nothing is kept
-abbrev pub expression_kept : List (List NumberedSymbol) → ℕ → List NumberedSymbol
-expression_kept expressions n = item_list expressions n
-
 -- for each `$f`, `$e`, `$a` and `$p` its expression is kept, read at its own place
 abbrev pub AreExpressions : List (List ℕ) → List Said → List (List NumberedSymbol) → Type 0
 AreExpressions all before expressions = (n : ℕ) (item : Said) → slice_get before n ≡ Some item → is_labelled item.kind ≡ true
-    → symbols_of all (expression_kept expressions n) ≡ expression (take n before) item
+    → symbols_of all (item_list expressions n) ≡ expression (take n before) item
 
 -- each symbol that is kept has the number of a name
 abbrev pub AreNumbered : List (List ℕ) → List (List NumberedSymbol) → Type 0
-AreNumbered all expressions = (n : ℕ) → All (IsNumbered all) (expression_kept expressions n)
+AreNumbered all expressions = (n : ℕ) → All (IsNumbered all) (item_list expressions n)
 
 -- for each `$f`, `$e`, `$a`, `$p` and `$d` its symbols are kept, read at its own place
 pub record AreSymbols (all : List (List ℕ)) (before : List Said) (expressions : List (List NumberedSymbol)) : Type 0 where
   pub count : length expressions ≡ length before
   pub numbered : AreNumbered all expressions
   pub each : (n : ℕ) (item : Said) → slice_get before n ≡ Some item → is_read item.kind ≡ true
-      → symbols_of all (expression_kept expressions n) ≡ expression (take n before) item
+      → symbols_of all (item_list expressions n) ≡ expression (take n before) item
 
 -- the symbols that are kept of an item are its expression or its variables, if the flag says that it is sound
 pub record AreSymbolsOf (all : List (List ℕ)) (before : List Said) (item : Said) (sound : Bool) (symbols : List NumberedSymbol) : Type 0 where

@@ -3,7 +3,8 @@ use Rattle.std.specs.Prelude.{◌≡◌, ℕ, ◌<◌, ◌≤◌, true, if◌the
 use Rattle.mm_frame.specs.declared.essential.EssentialVariable.{EssentialVariable}
 use Rattle.mm_machine.specs.declared.symbol.NumberedSymbol.{NumberedSymbol}
 use Rattle.mm_frame.specs.declared.tables.Tables.{Tables}
-use Rattle.mm_frame.specs.Code.KeptSymbols.{expression_kept, float_number}
+use Rattle.mm_frame.specs.Code.KeptSymbols.{float_number}
+use Rattle.mm_frame.specs.Code.KeptLists.{item_list}
 use Rattle.mm_frame.specs.Code.PairOrder.{is_among}
 
 -- a variable that is kept by the number of a `$e`
@@ -38,8 +39,8 @@ pub record IsKeptVariable (essentials : List ℕ) (found : List EssentialVariabl
 -- what is kept is a symbol of its `$e`, and each variable of these `$e` is kept
 pub record AreVariablesOf (essentials : List ℕ) (expressions : List (List NumberedSymbol)) (found : List EssentialVariable) : Type 0 where
   pub within : (v : EssentialVariable) → Contains found v → v.number < length expressions
-  pub from : (v : EssentialVariable) → Contains found v → Contains (expression_kept expressions v.number) v.symbol
-  pub to : (n : ℕ) (s : NumberedSymbol) → Contains essentials n → Contains (expression_kept expressions n) s → s.variable ≡ true
+  pub from : (v : EssentialVariable) → Contains found v → Contains (item_list expressions v.number) v.symbol
+  pub to : (n : ℕ) (s : NumberedSymbol) → Contains essentials n → Contains (item_list expressions n) s → s.variable ≡ true
       → IsKeptVariable essentials found n s
 
 -- the number of the `$f` of a variable that is kept by one of these `$e`

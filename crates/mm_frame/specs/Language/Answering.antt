@@ -1,6 +1,6 @@
 -- What a base reports on its items, with the numbers of names in place of names, and when this is right (Metamath book, section 4.2).
 use Rattle.std.specs.Prelude.{◌≡◌, ℕ, ◌≤◌, Bool, true, ◌&&◌, ◌||◌, if◌then◌else◌, is_some, is_none, Option, Some, None, List, [], length, map, take, drop}
-use Rattle.std.specs.Prelude.{filter, flat_map, bytes_eq, slice_get, All, IfSome}
+use Rattle.std.specs.Prelude.{filter, flat_map, bytes_eq, nat_eq, slice_get, All, IfSome}
 use Rattle.std.specs.Option.{option_map}
 use Rattle.std.specs.List.{AllZip, list_any}
 use Rattle.mm_store.specs.declared.item.Item as store
@@ -106,3 +106,7 @@ StandsLater names base answers = (all : List (List ℕ)) → AreDistinct all →
 -- what is reported is right by some list of names
 abbrev pub IsBase : BaseView → BaseAnswers → Type 0
 IsBase base answers = (names : List (List ℕ)) × IsBaseBy names base answers
+
+-- two numbers, of names, frames or lists, are the same two
+abbrev pub same_numbers : ℕ × ℕ → ℕ × ℕ → Bool
+same_numbers a b = nat_eq a.0 b.0 && nat_eq a.1 b.1

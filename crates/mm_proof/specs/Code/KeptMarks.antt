@@ -1,12 +1,12 @@
 -- What is kept of what stays of an old base in a new one.
-use Rattle.std.specs.Prelude.{◌≡◌, ◌↔◌, ◌<◌, ℕ, Bool, true, false, not, ◌&&◌, nat_eq, Option, Some, List, length, map, slice_get, bytes_eq, codes}
+use Rattle.std.specs.Prelude.{◌≡◌, ◌↔◌, ◌<◌, ℕ, Bool, true, false, not, Option, Some, List, length, map, slice_get, bytes_eq, codes}
 use Rattle.std.specs.HashMap.{get}
 use Rattle.std.specs.List.{AllByRecursion}
 use Rattle.mm_frame.specs.Language.Base.{BaseView, before, said_at, is_shown_at, is_framed_at, is_proof_at, frame_at, hypothesis_at, ShareMandatory}
 use Rattle.mm_frame.specs.mm_machine.Language.Frame.{LabelMeaning, Hypothesis, Assertion, Inactive, Unknown, AreSameFrame, AreSamePairs}
 use Rattle.mm_frame.specs.Language.Framing.{active_pairs, expression}
 use Rattle.mm_frame.specs.Language.Resolving.{IsCarrier}
-use Rattle.mm_frame.specs.Language.Answering.{HasNumber, IsBaseBy}
+use Rattle.mm_frame.specs.Language.Answering.{HasNumber, IsBaseBy, same_numbers}
 use Rattle.mm_frame.specs.declared.base.Base.{Base}
 use Rattle.mm_frame.specs.declared.base.Resolved as answer
 use Rattle.mm_frame.specs.declared.base.Resolved.TheVariants as answers
@@ -57,10 +57,6 @@ pub record AreTheorems (base copy : BaseView) (i j : ℕ) : Type 0 where
 -- the same pairs are active at both
 abbrev pub SharePairs : BaseView → BaseView → ℕ → ℕ → Type 0
 SharePairs base copy i j = AreSamePairs (active_pairs (before base i)) (active_pairs (before copy j))
-
--- two numbers are the same two
-abbrev pub same_numbers : ℕ × ℕ → ℕ × ℕ → Bool
-same_numbers a b = nat_eq a.0 b.0 && nat_eq a.1 b.1
 
 -- an answer for two numbers, one of each base, is right of all items that have them
 abbrev pub IsAnswered : Base → Base → (Base → List (Option ℕ)) → (BaseView → BaseView → ℕ → ℕ → Type 0) → ℕ × ℕ → Bool → Type 0

@@ -6,7 +6,7 @@ use Rattle.std.{proofs.Common.{arith, All, IfSome}, specs.{Borrow.{Bor}, Option.
 use Rattle.mm_frame.proofs.lemmas.base.BaseLemmas.{framed_in_order, item_there, kept_front_at, kept_item_at, none_told, row_none, item_beyond, kept_count}
 use Rattle.mm_frame.proofs.lemmas.{base.ResolvingLemmas.{carrier_found, found_carrier}, faults.FoundFaults.{sound_found}, frames.FrameNumbers.{HasKind, frame_numbers, framed_some}}
 use Rattle.mm_frame.{proofs.lemmas.{frames.SameFrames.{same_from_order}, lists.SharedValues.{value_there}, pairs.SharedPairs.{same_turned, same_joined}}, specs.Code.KeptPairLists.{list_kept}}
-use Rattle.mm_frame.specs.Code.{KeptSortedLists.{pairs_or_none}, KeptSymbols.{AreSymbols, expression_kept}, KeptLists.{list_or_none}, KeptTables.{table_label}, BaseInside.{answers_of}}
+use Rattle.mm_frame.specs.Code.{KeptSortedLists.{pairs_or_none}, KeptSymbols.{AreSymbols}, KeptLists.{list_or_none, item_list}, KeptTables.{table_label}, BaseInside.{answers_of}}
 use Rattle.mm_frame.specs.Code.{KeptRows.{rows_of, row_label, row_fault, is_shown_in}, KeptAssertions.{TellsFrame, TellsPairs}, KeptBase.{AreParts, frame_told, hypotheses_at, list_told}}
 use Rattle.mm_frame.specs.Code.{KeptShared.{shared_values}, KeptSparse.{value_kept}}
 use Rattle.mm_frame.specs.Language.{Base.{told_fault, AreLabelled, BaseView, before, said_at, fault_at, frame_at, is_framed_at, is_sound_at, ShareMandatory}, Sound.{fault, sound_items}}
@@ -72,14 +72,14 @@ row_there tells said rows i are t = grind (arith, common_steps, slice_get_within
 
 -- the symbols that are kept of a sound item
 pub expression_read : (all : List (List ℕ)) (base : BaseView) (expressions : List (List NumberedSymbol)) (i : ℕ) → AreRows (IsExpressionTold all) base expressions → (is_sound_at base i && is_read (said_at base i).kind) ≡ true
-    → symbols_of all (expression_kept expressions i) ≡ expression (before base i) (said_at base i)
+    → symbols_of all (item_list expressions i) ≡ expression (before base i) (said_at base i)
 expression_read all base expressions i are t =
     let row =
     row_there (IsExpressionTold all) base expressions i are
     (item_there is_read refl base i (and_parts (is_sound_at base i) (is_read (said_at base i).kind) t).1) in
     ap (λ o. symbols_of all (list_or_none o)) row.1 ∙ (are.each i row.0 row.1).expression t
 
-pub expression_numbered : (all : List (List ℕ)) (said : List Said) (expressions : List (List NumberedSymbol)) (i : ℕ) → AreRows (IsExpressionTold all) said expressions → All (IsNumbered all) (expression_kept expressions i)
+pub expression_numbered : (all : List (List ℕ)) (said : List Said) (expressions : List (List NumberedSymbol)) (i : ℕ) → AreRows (IsExpressionTold all) said expressions → All (IsNumbered all) (item_list expressions i)
 expression_numbered all said expressions i are = by (slice_get expressions i) refl
   where
     by : (o : Option (List NumberedSymbol)) → slice_get expressions i ≡ o → All (IsNumbered all) (list_or_none o)

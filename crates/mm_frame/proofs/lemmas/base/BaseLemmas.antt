@@ -8,7 +8,7 @@ use Rattle.mm_frame.proofs.lemmas.{frames.HypothesisNumbers.{active_numbers_more
 use Rattle.mm_frame.{proofs.lemmas.{scope.{TableLemmas.{item_between}, BlockLemmas.{get_cases, get_last}}, names.NamedLemmas.{get_before}}, specs.declared.FrameNumber.{FrameNumber}}
 use Rattle.mm_frame.specs.Language.{Sound.{IsSound, AreSound, fault, judged, sound_items, sound_items_after}, Framing.{expression}, Scope.{active_numbers}, Marks.{mark_of}}
 use Rattle.mm_frame.specs.{Language.{Base.{BaseView, before, said_at, fault_by, is_sound_at, is_framed_at, frame_at}, Answering.{AreRows, pairs_in_order}}, Code.BlockMarks.{closes}}
-use Rattle.mm_frame.specs.Code.{Numbers.{IsNameNumber, AreNameNumbers}, KeptLists.{list_or_none}, KeptSymbols.{expression_kept, AreSymbols}, LastItems.{IsSort}, KeptScope.{taken}}
+use Rattle.mm_frame.specs.Code.{Numbers.{IsNameNumber, AreNameNumbers}, KeptLists.{list_or_none, item_list}, KeptSymbols.{AreSymbols}, LastItems.{IsSort}, KeptScope.{taken}}
 use Rattle.mm_frame.specs.Code.KeptActiveItems.{changes_active}
 use Rattle.mm_machine.specs.{declared.symbol.NumberedSymbol.{NumberedSymbol}, Language.{NumberedSymbols.{symbols_of, kept_pairs, IsNumbered, IsPairNumbered, ArePairsRead}, Frame.{AreSamePairs}}}
 use Rattle.mm_statement.specs.Language.Item.{Kind, Disjoint, Essential, BlockEnd, Said, passed, is_kind, is_read, is_assertion, item_at}
@@ -73,7 +73,7 @@ symbols_more all before item expressions symbols a numbers new = record {
   each = λ n x e t. elim (get_cases before item x n e) [
     | inl there ↦ grind (arith, common_steps, get_before, slice_get_within, take-append-le) steps 200000
     | inr last ↦ (let z = last.0 in
-        ap (λ k. symbols_of all (expression_kept (expressions ++ symbols ∷ []) k)) (z ∙ sym a.count) ∙ ap (λ o. symbols_of all (list_or_none o)) (get_last expressions symbols (length expressions) refl)
+        ap (λ k. symbols_of all (item_list (expressions ++ symbols ∷ []) k)) (z ∙ sym a.count) ∙ ap (λ o. symbols_of all (list_or_none o)) (get_last expressions symbols (length expressions) refl)
         ∙ new (ap (λ (w : Said). is_read w.kind) last.1 ∙ t) ∙ (λ i. expression (sym (ap (λ k. take k (before ++ item ∷ [])) z ∙ take-append_seam before (item ∷ [])) i) (last.1 i)))
   ];
 }

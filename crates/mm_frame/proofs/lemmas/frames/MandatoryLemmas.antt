@@ -9,7 +9,7 @@ use Rattle.mm_frame.proofs.lemmas.lists.Members.{in_cond, In, in_contains, conta
 use Rattle.mm_frame.proofs.lemmas.{lists.{Members.{to_symbols}, Rising.{among_in}}, names.NumberLemmas.{declared_named, name_there}, scope.KnownLemmas.{float_in}}
 use Rattle.mm_frame.{proofs.lemmas.pairs.ActivePairLemmas.{expression_at_number, active_at_number, number_of_active}, specs.Code.PairOrder.{is_among}}
 use Rattle.mm_frame.specs.Code.{LastItems.{last_where, types, is_active_at, is_essential_item, IsHypothesisNumber}, Numbers.{IsNameNumber}, KeptTables.{Knows, declared_at, float_of}}
-use Rattle.mm_frame.specs.Code.{KeptSymbols.{expression_kept, AreExpressions, AreNumbered, float_number, float_numbers}, KeptVariables.{AreVariablesOf, known_float}}
+use Rattle.mm_frame.specs.Code.{KeptSymbols.{AreExpressions, AreNumbered, float_number, float_numbers}, KeptVariables.{AreVariablesOf, known_float}, KeptLists.{item_list}}
 use Rattle.mm_frame.specs.Language.{Scope.{active, symbols_by, active_variables, active_numbers}, Sound.{AreSound, IsSound}, Framing.{symbol, expression, mandatory_variables, mandatory_numbers}}
 use Rattle.mm_frame.specs.declared.{tables.Tables.{Tables}, essential.EssentialVariable.{EssentialVariable}}
 use Rattle.mm_machine.specs.{Language.{Frame.{Symbol}, Names.{name_at}, NumberedSymbols.{symbol_of, symbols_of, IsNumbered, AreSymbolsRead}}, declared.symbol.NumberedSymbol.{NumberedSymbol}}
@@ -62,7 +62,7 @@ essential_mandatory before item e s a k m t =
 -- what is kept for an active `$e` is its expression
 kept_essential : (all : List (List ℕ)) (before : List Said) (expressions : List (List NumberedSymbol)) (n : ℕ) (e : Said) → AreSound before
     → AreExpressions all before expressions → slice_get before n ≡ Some e → is_active_at before n ≡ true → is_kind Essential e.kind ≡ true
-    → symbols_of all (expression_kept expressions n) ≡ expression before e
+    → symbols_of all (item_list expressions n) ≡ expression before e
 kept_essential all before expressions n e h a there s t =
     grind (arith, common_steps, expression_labelled e.kind (essential_expression e.kind t), expression_at_number before h n e there s (expression_labelled e.kind (essential_expression e.kind t))) steps 200000
 
@@ -79,7 +79,7 @@ pub record IsAssertionBehind (all : List (List ℕ)) (before : List Said) (item 
 -- a number that is collected
 abbrev pub IsCollected : Tables → List (List NumberedSymbol) → List NumberedSymbol → ℕ → List ℕ → Type 0
 IsCollected tables expressions own n essentials =
-    In n essentials ⊎ (In n (float_numbers tables own) ⊎ In n (flat_map (λ m. float_numbers tables (expression_kept expressions m)) essentials))
+    In n essentials ⊎ (In n (float_numbers tables own) ⊎ In n (flat_map (λ m. float_numbers tables (item_list expressions m)) essentials))
 
 collected_from : (all : List (List ℕ)) (before : List Said) (item : Said) (tables : Tables) (expressions : List (List NumberedSymbol)) (own : List NumberedSymbol) → IsAssertionBehind all before item tables expressions own → (n : ℕ)
     → IsCollected tables expressions own n (active_numbers is_essential_item before) → IsHypothesisNumber before item n
@@ -88,9 +88,9 @@ collected_from all before item tables expressions own b n (inr (inl f)) =
     let r = float_from all before tables own n b.sound b.known b.symbols.numbered f in
     inr ((r.0).name, in_contains (r.0).name (mandatory_variables before item) (own_mandatory before item r.0 (subst (In r.0) b.symbols.symbols r.1) r.2), r.3)
 collected_from all before item tables expressions own b n (inr (inr f)) =
-    let p = from_flat (λ m. float_numbers tables (expression_kept expressions m)) n (active_numbers is_essential_item before) f in
+    let p = from_flat (λ m. float_numbers tables (item_list expressions m)) n (active_numbers is_essential_item before) f in
     let e = from_active_number is_essential_item before p.0 p.1 in
-    let r = float_from all before tables (expression_kept expressions p.0) n b.sound b.known (b.numbered p.0) p.2 in
+    let r = float_from all before tables (item_list expressions p.0) n b.sound b.known (b.numbered p.0) p.2 in
     let there = subst (In r.0) (kept_essential all before expressions p.0 e.0 b.sound b.expressions e.1 e.2 e.3) r.1 in
     inr ((r.0).name, in_contains (r.0).name (mandatory_variables before item) (essential_mandatory before item e.0 r.0 (active_at_number before p.0 e.0 e.1 e.2) e.3 there r.2), r.3)
 
@@ -110,8 +110,8 @@ collected_to all before item tables expressions own b n (inr p) =
           let e = q.0 in
           let at = number_of_active before e q.1 in
           let same = kept_essential all before expressions at.number e b.sound b.expressions at.there at.stayed q.2 in
-          inr (inr (in_flat (λ m. float_numbers tables (expression_kept expressions m)) at.number n (active_numbers is_essential_item before) (to_active_number is_essential_item before at.number e at.there at.stayed q.2)
-          (float_to all before tables (expression_kept expressions at.number) (symbol before name) n b.sound b.known (b.numbered at.number) (subst (In (symbol before name)) (sym same) (in_map (symbol before) name e.symbols q.3)) r.1 p.2)))
+          inr (inr (in_flat (λ m. float_numbers tables (item_list expressions m)) at.number n (active_numbers is_essential_item before) (to_active_number is_essential_item before at.number e at.there at.stayed q.2)
+          (float_to all before tables (item_list expressions at.number) (symbol before name) n b.sound b.known (b.numbered at.number) (subst (In (symbol before name)) (sym same) (in_map (symbol before) name e.symbols q.3)) r.1 p.2)))
           )
     ]
 
@@ -131,9 +131,9 @@ known_collected tables expressions essentials found own are n h =
             let r = from_flat (known_float tables essentials) n found b in
             let v = r.0 in
             let known = in_cond (is_among essentials v.number) n (float_number tables v.symbol) r.2 in
-            inr (inr (in_flat (λ m. float_numbers tables (expression_kept expressions m)) v.number n essentials (among_in essentials v.number known.0)
-            (in_flat (float_number tables) v.symbol n (expression_kept expressions v.number)
-            (contains_in v.symbol (expression_kept expressions v.number) (are.from v (in_contains v found r.1))) known.1)))
+            inr (inr (in_flat (λ m. float_numbers tables (item_list expressions m)) v.number n essentials (among_in essentials v.number known.0)
+            (in_flat (float_number tables) v.symbol n (item_list expressions v.number)
+            (contains_in v.symbol (item_list expressions v.number) (are.from v (in_contains v found r.1))) known.1)))
             )
       ]
       | inr e ↦ inl e

@@ -4,7 +4,7 @@ use Rattle.std.proofs.{Common.{subst, take-append-drop, append_assoc, length-app
 use Rattle.std.proofs.lemmas.{List.Elements.{Contains-append_left, Contains-append_right, Contains-append_cases}, Option.{slice_get_within}}
 use native.Mathlib.Decide.{dec_lt}
 use Rattle.mm_frame.specs.{declared.{essential.EssentialVariable.{EssentialVariable}, tables.Tables.{Tables}}, Language.{Scope.{active_numbers}, Marks.{Neither, Closes}}}
-use Rattle.mm_frame.specs.Code.{LastItems.{is_active_at, is_essential_item}, KeptLists.{list_or_none}, KeptSymbols.{expression_kept, float_number, float_numbers}}
+use Rattle.mm_frame.specs.Code.{LastItems.{is_active_at, is_essential_item}, KeptLists.{list_or_none, item_list}, KeptSymbols.{float_number, float_numbers}}
 use Rattle.mm_frame.specs.Code.{KeptVariables.{by_essential, AddsOne, AddsAll, IsKeptVariable, AreVariablesOf, IsKeptBy, known_float}, PairOrder.{is_among}}
 use Rattle.mm_frame.proofs.lemmas.frames.{Frames.{essential_neither}, HypothesisNumbers.{to_active_number, from_active_number, active_numbers_more}}
 use Rattle.mm_frame.proofs.lemmas.{lists.{Members.{In, in_contains, contains_in, in_left, in_flat, from_flat}, Rising.{in_among}}, scope.BlockLemmas.{get_front, get_cases}}
@@ -84,14 +84,14 @@ earlier_or_last before item n k = by_place (get_cases before item r.0 n r.1)
 earlier_within : (before : List Said) (n : ℕ) → In n (active_numbers is_essential_item before) → n < length before
 earlier_within before n h = let r = from_active_number is_essential_item before n h in slice_get_within before n r.0 r.1
 
-same_kept : (old : List (List NumberedSymbol)) (symbols : List NumberedSymbol) (n : ℕ) → n < length old → expression_kept (old ++ symbols ∷ []) n ≡ expression_kept old n
+same_kept : (old : List (List NumberedSymbol)) (symbols : List NumberedSymbol) (n : ℕ) → n < length old → item_list (old ++ symbols ∷ []) n ≡ item_list old n
 same_kept old symbols n l = ap list_or_none (get_before old symbols n l)
 
 -- the variables that are left are those of the `$e` that are active yet
 record AreLeftOf (essentials : List ℕ) (expressions : List (List NumberedSymbol)) (count : ℕ) (found : List EssentialVariable) : Type 0 where
   within : (v : EssentialVariable) → Contains found v → v.number < length expressions
-  from : (v : EssentialVariable) → Contains found v → Contains (expression_kept expressions v.number) v.symbol
-  to : (n : ℕ) (s : NumberedSymbol) → (n < count) → Contains essentials n → Contains (expression_kept expressions n) s → s.variable ≡ true → IsKeptVariable essentials found n s
+  from : (v : EssentialVariable) → Contains found v → Contains (item_list expressions v.number) v.symbol
+  to : (n : ℕ) (s : NumberedSymbol) → (n < count) → Contains essentials n → Contains (item_list expressions n) s → s.variable ≡ true → IsKeptVariable essentials found n s
 
 left : (before : List Said) (item : Said) (old : List (List NumberedSymbol)) (symbols : List NumberedSymbol) (found : List EssentialVariable) (count : ℕ)
     → length old ≡ length before → AreVariablesOf (active_numbers is_essential_item before) old found
@@ -153,12 +153,12 @@ pub variables_added : (before : List Said) (item : Said) (old : List (List Numbe
     (found new : List EssentialVariable) (count : ℕ) → length old ≡ length before → AreVariablesOf (active_numbers is_essential_item before) old found
     → ((v : EssentialVariable) → Contains (drop count found) v → (n : ℕ) → Contains (active_numbers is_essential_item (before ++ item ∷ [])) n → n < v.number)
     → is_among (active_numbers is_essential_item (before ++ item ∷ [])) (length before) ≡ true → AddsAll
-    (active_numbers is_essential_item (before ++ item ∷ [])) (length before) (expression_kept (old ++ symbols ∷ []) (length before)) (take count found)
+    (active_numbers is_essential_item (before ++ item ∷ [])) (length before) (item_list (old ++ symbols ∷ []) (length before)) (take count found)
     new
     → AreVariablesOf (active_numbers is_essential_item (before ++ item ∷ [])) (old ++ symbols ∷ []) new
 variables_added before item old symbols found new count long are gone among adds = record {
   within = λ v c. elim (cases v c) [ inl a ↦ l.within v a | inr b ↦ (let e = (adds.own v b).0 in let k = length-append old (symbols ∷ []) in omega arith) ];
-  from = λ v c. elim (cases v c) [ inl a ↦ l.from v a | inr b ↦ (let r = adds.own v b in subst (λ w. Contains (expression_kept (old ++ symbols ∷ []) w) v.symbol) (sym r.0) r.1) ];
+  from = λ v c. elim (cases v c) [ inl a ↦ l.from v a | inr b ↦ (let r = adds.own v b in subst (λ w. Contains (item_list (old ++ symbols ∷ []) w) v.symbol) (sym r.0) r.1) ];
   to =
       let last : (n : ℕ) (s : NumberedSymbol) → n ≡ length before → IsKeptBy behind new s → IsKeptVariable behind new n s =
       λ n s z r. record {
@@ -181,7 +181,7 @@ variables_added before item old symbols found new count long are gone among adds
               subst (λ w. Contains w (by_essential kept.first s)) (sym adds.whole) (Contains-append_left (take count found) adds.more (by_essential kept.first s)
               kept.there);
         })
-        | inr z ↦ last n s z (adds.there s (subst (λ w. Contains (expression_kept (old ++ symbols ∷ []) w) s) z c) t)
+        | inr z ↦ last n s z (adds.there s (subst (λ w. Contains (item_list (old ++ symbols ∷ []) w) s) z c) t)
       ];
 }
   where
@@ -202,10 +202,10 @@ float_variable true n ns h = refl
 float_variable false n ns h = absurd h
 
 pub known_to : (tables : Tables) (essentials : List ℕ) (expressions : List (List NumberedSymbol)) (found : List EssentialVariable) → AreVariablesOf essentials expressions found → (n : ℕ)
-    → In n (flat_map (λ m. float_numbers tables (expression_kept expressions m)) essentials) → In n (flat_map (known_float tables essentials) found)
+    → In n (flat_map (λ m. float_numbers tables (item_list expressions m)) essentials) → In n (flat_map (known_float tables essentials) found)
 known_to tables essentials expressions found are n h =
-    let r = from_flat (λ m. float_numbers tables (expression_kept expressions m)) n essentials h in
-    let s = from_flat (float_number tables) n (expression_kept expressions r.0) r.2 in
-    let kept = are.to r.0 s.0 (in_contains r.0 essentials r.1) (in_contains s.0 (expression_kept expressions r.0) s.1) (float_variable (s.0).variable n _ s.2) in
+    let r = from_flat (λ m. float_numbers tables (item_list expressions m)) n essentials h in
+    let s = from_flat (float_number tables) n (item_list expressions r.0) r.2 in
+    let kept = are.to r.0 s.0 (in_contains r.0 essentials r.1) (in_contains s.0 (item_list expressions r.0) s.1) (float_variable (s.0).variable n _ s.2) in
     in_flat (known_float tables essentials) (by_essential kept.first s.0) n found (contains_in (by_essential kept.first s.0) found kept.there)
     (subst (λ c. In n (cond c (float_number tables s.0) [])) (sym (in_among essentials kept.first (contains_in kept.first essentials kept.active))) s.2)

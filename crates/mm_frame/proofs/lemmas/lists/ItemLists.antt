@@ -13,9 +13,6 @@ lists_stay xs more (p ∷ parts) a =
     let w = All-head (IsPartOf (length xs)) p parts a in
     (λ i. range_front xs more p.start p.end w.0 w.1 i ∷ lists_stay xs more parts (All-tail (IsPartOf (length xs)) p parts a) i)
 
-pub parts_stay : (count larger : ℕ) (parts : List Part) → count ≤ larger → All (IsPartOf count) parts → All (IsPartOf larger) parts
-parts_stay count larger parts l a = All-weaker (IsPartOf count) (IsPartOf larger) (λ p w. (w.0, omega (arith, w.1))) parts a
-
 -- one more item, with a list behind the others
 pub list_added : {X : Type 0} (xs own all : List X) (parts : List Part) (part : Part) → All (IsPartOf (length xs)) parts → all ≡ xs ++ own → part.start ≡ length xs → part.end ≡ length all
     → map (elements_of all) (parts ++ part ∷ []) ≡ map (elements_of xs) parts ++ own ∷ []

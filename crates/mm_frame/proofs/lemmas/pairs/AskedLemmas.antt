@@ -1,10 +1,10 @@
 -- What was found for pairs that were looked up: after one more item, and what it says of active pairs.
-use Rattle.std.proofs.Common.{subst, ◌≡◌, ℕ, zero, suc, ◌<◌, ◌≤◌, Bool, true, false, Option, Some, None, List, [], ◌∷◌, ◌++◌, length, take, drop, get_or, refl, sym, ◌∙◌, ap, take-append-drop}
-use Rattle.std.proofs.{Common.{length-append, arith}, lemmas.{Grind.{common_steps}, Bool.{false≢true}, List.{drop-append-le}, Option.{slice_get_within}}}
-use Rattle.std.specs.Prelude.{Contains, IfSome, IfNone, is_some}
+use Rattle.std.proofs.Common.{rules, subst, ◌≡◌, ℕ, zero, suc, ◌<◌, ◌≤◌, Bool, true, false, cond, HashMap, Option, Some, None, List, [], ◌∷◌, ◌++◌, length, take, drop, refl, sym, ◌∙◌, ap}
+use Rattle.std.proofs.{Common.{take-append-drop, length-append, arith}, lemmas.{Grind.{common_steps}, Bool.{and_parts, false≢true}, List.{drop-append-le}, Option.{same_Some, slice_get_within}}}
+use Rattle.std.specs.{Prelude.{Contains, IfSome, IfNone, is_some, nat_eq}, HashMap.{get}}
 use Rattle.mm_frame.specs.Code.{LastItems.{IsRising, is_active_at}, BlockMarks.{stays_by}, Numbers.{IsNameNumber}, KeptPairTable.{row_at, IsDisjointAt, IsCommon, ReadsPairs}}
-use Rattle.mm_frame.specs.{Code.KeptAsked.{IsFoundBefore, IsPairAnswer, KnowsAsked}, declared.{asked.AskedPairs.{AskedPairs}, paired.PairTable.{PairTable}}, Language.Marks.{Mark}}
-use Rattle.mm_frame.{specs.Language.{Framing.{active_pairs}, Answering.{are_paired}}, proofs.lemmas.scope.ActiveBySplit.{stays_join, stays_front}}
+use Rattle.mm_frame.specs.{Code.KeptAsked.{IsFoundBefore, IsKnownPair, IsPairAnswer, KnowsAsked}, declared.{asked.{Answer.{Answer}, AskedPairs.{AskedPairs}}, paired.PairTable.{PairTable}}}
+use Rattle.mm_frame.{specs.Language.{Marks.{Mark}, Framing.{active_pairs}, Answering.{are_paired, same_numbers}}, proofs.lemmas.scope.ActiveBySplit.{stays_join, stays_front}}
 use Rattle.mm_frame.proofs.lemmas.pairs.PairTableLemmas.{disjoint_front, disjoint_cases, active_before, HavePair, paired_from, paired_to, active_at_marks}
 use native.Mathlib.Decide.{dec_lt}
 use Rattle.mm_statement.specs.Language.Item.{Said}
@@ -48,7 +48,18 @@ answer_more before item x y upto common a =
     }
 
 pub asked_more : (all : List (List ℕ)) (before : List Said) (item : Said) (asked : AskedPairs) → KnowsAsked all before asked → KnowsAsked all (before ++ item ∷ []) asked
-asked_more all before item asked knows k d l x y a b = answer_more before item x y (get_or asked.answers.items k d).upto (get_or asked.answers.items k d).common (knows k d l x y a b)
+asked_more all before item asked knows both answer found x y a b = answer_more before item x y answer.upto answer.common (knows both answer found x y a b)
+
+-- one more answer that is kept
+pub answer_kept : {S : Type 0} (all : List (List ℕ)) (before : List Said) (earlier later : HashMap (ℕ × ℕ) Answer S) (both : ℕ × ℕ) (answer : Answer) → IsKnownPair all before both answer
+    → ((other : ℕ × ℕ) → get same_numbers later other ≡ cond (same_numbers both other) (Some answer) (get same_numbers earlier other))
+    → ((other : ℕ × ℕ) (kept : Answer) → get same_numbers earlier other ≡ Some kept → IsKnownPair all before other kept)
+    → (other : ℕ × ℕ) (kept : Answer) → get same_numbers later other ≡ Some kept → IsKnownPair all before other kept
+answer_kept all before earlier later both answer is put knows other kept e = by (same_numbers both other) refl (sym (put other) ∙ e)
+  where
+    by : (b : Bool) → same_numbers both other ≡ b → cond b (Some answer) (get same_numbers earlier other) ≡ Some kept → IsKnownPair all before other kept
+    by true t o x y = search (rules, is x y, same_Some, and_parts)
+    by false t o x y = knows other kept o x y
 
 -- ---- what an answer says
 

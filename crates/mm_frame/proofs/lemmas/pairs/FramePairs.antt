@@ -8,7 +8,7 @@ use Rattle.mm_machine.specs.declared.symbol.NumberedSymbol.{NumberedSymbol}
 use Rattle.mm_frame.specs.Language.{Scope.{active, active_numbers}, Sound.{IsSound, AreSound}}
 use Rattle.mm_frame.specs.Language.Framing.{symbol, expression, mandatory_variables, is_mandatory, hypothesis, mandatory_hypotheses, pairs_of, active_pairs, is_mandatory_pair, frame}
 use Rattle.mm_frame.specs.{Language.{Framing.{mandatory_numbers}, Answering.{are_paired, typed_variables, pairs_in_order}}, Code.LastItems.{is_active_at, is_essential_item}}
-use Rattle.mm_frame.specs.Code.{KeptSymbols.{expression_kept, AreExpressions, AreNumbered}, PairOrder.{is_among, float_variable, float_variables}}
+use Rattle.mm_frame.specs.Code.{KeptSymbols.{AreExpressions, AreNumbered}, PairOrder.{is_among, float_variable, float_variables}, KeptLists.{item_list}}
 use Rattle.mm_frame.proofs.lemmas.pairs.ActivePairLemmas.{all_next, flat_of_map, row_next, expression_at_number, pairs_with, in_order, is_pair, SameNames, same_names, found_pair, to_paired, pair_here}
 use Rattle.mm_frame.proofs.lemmas.{pairs.ActivePairLemmas.{pair_turned, apart_active}, lists.Members.{In, in_contains, contains_in, from_map, in_filter, from_filter, in_flat, from_flat}}
 use Rattle.mm_frame.proofs.lemmas.{lists.Rising.{in_among, among_in}, scope.{Facts.{float_two}, SoundItems.{split_at, filter_same}}}
@@ -36,18 +36,18 @@ variables_at all before item expressions n h a m =
       by_kind : (x : Said) → slice_get before n ≡ Some x → is_active_at before n ≡ true → (is_kind Essential x.kind ≡ true) ⊎ ((is_kind Floating x.kind && has (mandatory_variables before item) (variable_of x)) ≡ true)
           → symbols_of all (float_variable essentials expressions n) ≡ variables_if (is_kind Floating x.kind) (expression before x)
       by_kind x there stayed (inl e) =
-          ap (λ b. symbols_of all (cond b [] (option_to_list (slice_get (expression_kept expressions n) 1)))) (in_among essentials n (to_active_number is_essential_item before n x there stayed e))
+          ap (λ b. symbols_of all (cond b [] (option_to_list (slice_get (item_list expressions n) 1)))) (in_among essentials n (to_active_number is_essential_item before n x there stayed e))
           ∙ sym (ap (λ b. variables_if b (expression before x)) (false_from_ne_true (is_kind Floating x.kind) (λ f. not_both x.kind f e)))
       by_kind x there stayed (inr b) =
           let f = (and_parts (is_kind Floating x.kind) (has (mandatory_variables before item) (variable_of x)) b).0 in
           let labelled = float_labelled x.kind f in
           let two = float_two (take n before) x (h (take n before) x (drop (suc n) before) (split_at before n x there)) f in
           let symbols : expression before x ≡ symbol before two.0 ∷ symbol before two.1 ∷ [] = ap (map (symbol before)) two.2 in
-          ap (λ b. symbols_of all (cond b [] (option_to_list (slice_get (expression_kept expressions n) 1))))
+          ap (λ b. symbols_of all (cond b [] (option_to_list (slice_get (item_list expressions n) 1))))
           (false_from_ne_true (is_among essentials n)
           (λ t. let r = from_active_number is_essential_item before n (among_in essentials n t) in
           not_both x.kind f (ap (λ (y : Said). is_kind Essential y.kind) (same_Some x r.0 (sym there ∙ r.1)) ∙ r.3)))
-          ∙ second_read all (expression_kept expressions n)
+          ∙ second_read all (item_list expressions n)
           ∙ ap (λ w. option_to_list (slice_get w 1)) ((a n x there labelled ∙ sym (expression_at_number before h n x there stayed labelled)) ∙ symbols)
           ∙ sym (ap (λ b. variables_if b (expression before x)) f ∙ ap (drop 1) symbols)
 
@@ -71,7 +71,7 @@ pub variables_numbered : (all : List (List ℕ)) (essentials numbers : List ℕ)
 variables_numbered all essentials numbers expressions a k d l =
     let v = get_or (float_variables essentials expressions numbers) k d in
     let r = from_flat (float_variable essentials expressions) v numbers (in_at (float_variables essentials expressions numbers) k d l) in
-    All-contains (IsNumbered all) (expression_kept expressions r.0) v (a r.0) (in_contains v (expression_kept expressions r.0) (second_kept (is_among essentials r.0) (expression_kept expressions r.0) v r.2))
+    All-contains (IsNumbered all) (item_list expressions r.0) v (a r.0) (in_contains v (item_list expressions r.0) (second_kept (is_among essentials r.0) (item_list expressions r.0) v r.2))
 
 -- what a variable of a mandatory `$f` is
 record TypedVariable (before : List Said) (item : Said) (v : Symbol) : Type 0 where

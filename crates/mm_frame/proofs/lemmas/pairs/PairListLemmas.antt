@@ -13,8 +13,8 @@ use Rattle.mm_frame.proofs.lemmas.pairs.{FramePairs.{each_pair}, ActivePairLemma
 use Rattle.mm_frame.proofs.lemmas.lists.{Members.{get_join, In, in_left, in_cases, in_get, get_in, in_contains, contains_in, in_map, from_map, front_get}, Rising.{rising_front}}
 use Rattle.mm_frame.{proofs.lemmas.base.BaseLemmas.{rows_more}, specs.{declared.pair_lists.PairLists.{PairLists}, Language.{Scope.{stays, active_numbers}, Sound.{AreSound, sound_items}}}}
 use Rattle.mm_frame.specs.{Language.{Framing.{expression, pairs_of, active_pairs}, Answering.{AreRows, is_told_proof}}, Code.LastItems.{is_active_at, is_disjoint_item, IsRising}}
-use Rattle.mm_frame.specs.Code.{KeptSymbols.{expression_kept, AreSymbols, AreNumbered}, KeptPairLists.{pairs_among, with_low_first, IsList, list_made, IsMadeFor, AreMade, KeepsLists, AreFrontNumbers}}
-use Rattle.mm_frame.specs.Code.{KeptSortedLists.{HasEach, HasSame, IsThere}, KeptAssertions.{TellsPairs}}
+use Rattle.mm_frame.specs.Code.{KeptSymbols.{AreSymbols, AreNumbered}, KeptPairLists.{pairs_among, with_low_first, IsList, list_made, IsMadeFor, AreMade, KeepsLists, AreFrontNumbers}}
+use Rattle.mm_frame.specs.Code.{KeptLists.{item_list}, KeptSortedLists.{HasEach, HasSame, IsThere}, KeptAssertions.{TellsPairs}}
 use native.Mathlib.Decide.{dec_lt}
 use Rattle.mm_machine.specs.{declared.symbol.NumberedSymbol.{NumberedSymbol}, Language.Frame.{Symbol, ArePair, AreSamePairs}}
 use Rattle.mm_machine.specs.Language.NumberedSymbols.{symbol_of, symbols_of, pair_of, kept_pairs, IsNumbered, IsPairNumbered, ArePairsRead, AreSamePairsRead, AreInOrder}
@@ -122,17 +122,17 @@ among_numbered all (x ∷ xs) h =
 
 -- the pairs of what is kept for the active `$d` are the active pairs
 abbrev in_turn_at : List (List NumberedSymbol) → ℕ → List (NumberedSymbol × NumberedSymbol)
-in_turn_at expressions n = in_turn (expression_kept expressions n)
+in_turn_at expressions n = in_turn (item_list expressions n)
 
-all_read : (all : List (List ℕ)) (expressions : List (List NumberedSymbol)) (numbers : List ℕ) → kept_pairs all (flat_map (in_turn_at expressions) numbers) ≡ flat_map (λ n. pairs_of (symbols_of all (expression_kept expressions n))) numbers
+all_read : (all : List (List ℕ)) (expressions : List (List NumberedSymbol)) (numbers : List ℕ) → kept_pairs all (flat_map (in_turn_at expressions) numbers) ≡ flat_map (λ n. pairs_of (symbols_of all (item_list expressions n))) numbers
 all_read all expressions [] = refl
 all_read all expressions (n ∷ numbers) =
-    map-append (pair_of all) (in_turn_at expressions n) (flat_map (in_turn_at expressions) numbers) ∙ (λ i. among_read all (expression_kept expressions n) i ++ all_read all expressions numbers i)
+    map-append (pair_of all) (in_turn_at expressions n) (flat_map (in_turn_at expressions) numbers) ∙ (λ i. among_read all (item_list expressions n) i ++ all_read all expressions numbers i)
 
 all_numbered : (all : List (List ℕ)) (expressions : List (List NumberedSymbol)) (numbers : List ℕ) → AreNumbered all expressions → All (IsPairNumbered all) (flat_map (in_turn_at expressions) numbers)
 all_numbered all expressions [] h = All-nil (IsPairNumbered all)
 all_numbered all expressions (n ∷ numbers) h =
-    All-append (IsPairNumbered all) (in_turn_at expressions n) (flat_map (in_turn_at expressions) numbers) (among_numbered all (expression_kept expressions n) (h n)) (all_numbered all expressions numbers h)
+    All-append (IsPairNumbered all) (in_turn_at expressions n) (flat_map (in_turn_at expressions) numbers) (among_numbered all (item_list expressions n) (h n)) (all_numbered all expressions numbers h)
 
 -- these are numbers of `$d`
 abbrev AreDisjoint : List Said → List ℕ → Type 0
@@ -146,7 +146,7 @@ pairs_kept all before expressions numbers a are = record {
 }
   where
     read_at : ℕ → List (Symbol × Symbol)
-    read_at n = pairs_of (symbols_of all (expression_kept expressions n))
+    read_at n = pairs_of (symbols_of all (item_list expressions n))
 
     same : (n : ℕ) → In n numbers → read_at n ≡ pairs_at before n
     same n k =
@@ -215,25 +215,25 @@ low_among : (xs : List NumberedSymbol) → pairs_among xs ≡ map with_low_first
 low_among [] = refl
 low_among (x ∷ xs) = (λ i. sym (map-map with_low_first (λ y. (x, y)) xs) i ++ low_among xs i) ∙ sym (map-append with_low_first (map (λ y. (x, y)) xs) (in_turn xs))
 
-low_all : (expressions : List (List NumberedSymbol)) (numbers : List ℕ) → flat_map (λ n. pairs_among (expression_kept expressions n)) numbers ≡ map with_low_first (flat_map (in_turn_at expressions) numbers)
+low_all : (expressions : List (List NumberedSymbol)) (numbers : List ℕ) → flat_map (λ n. pairs_among (item_list expressions n)) numbers ≡ map with_low_first (flat_map (in_turn_at expressions) numbers)
 low_all expressions [] = refl
-low_all expressions (n ∷ numbers) = (λ i. low_among (expression_kept expressions n) i ++ low_all expressions numbers i) ∙ sym (map-append with_low_first (in_turn_at expressions n) (flat_map (in_turn_at expressions) numbers))
+low_all expressions (n ∷ numbers) = (λ i. low_among (item_list expressions n) i ++ low_all expressions numbers i) ∙ sym (map-append with_low_first (in_turn_at expressions n) (flat_map (in_turn_at expressions) numbers))
 
 low_read : (all : List (List ℕ)) (before : List Said) (expressions : List (List NumberedSymbol)) (numbers : List ℕ) → AreSymbols all before expressions → AreDisjoint before numbers
-    → AreSamePairsRead all (flat_map (pairs_at before) numbers) (flat_map (λ n. pairs_among (expression_kept expressions n)) numbers)
+    → AreSamePairsRead all (flat_map (pairs_at before) numbers) (flat_map (λ n. pairs_among (item_list expressions n)) numbers)
 low_read all before expressions numbers a are =
-    let listed = flat_map (λ n. pairs_among (expression_kept expressions n)) numbers in
+    let listed = flat_map (λ n. pairs_among (item_list expressions n)) numbers in
     let low = low_all expressions numbers in
     same_read all (flat_map (pairs_at before) numbers) (flat_map (in_turn_at expressions) numbers) listed (pairs_kept all before expressions numbers a are) (λ p. (λ h. subst (In p) low h, λ h. subst (In p) (sym low) h))
 
 pub active_read : (all : List (List ℕ)) (before : List Said) (expressions : List (List NumberedSymbol)) (numbers : List ℕ) → AreSymbols all before expressions → ((n : ℕ) → In n numbers → In n (active_numbers is_disjoint_item before))
-    → AreSamePairsRead all (flat_map (pairs_at before) numbers) (flat_map (λ n. pairs_among (expression_kept expressions n)) numbers)
+    → AreSamePairsRead all (flat_map (pairs_at before) numbers) (flat_map (λ n. pairs_among (item_list expressions n)) numbers)
 active_read all before expressions numbers a active = low_read all before expressions numbers a (λ n h. let r = from_active_number is_disjoint_item before n (active n h) in (r.0, r.1, r.3))
 
 pub front_read : (all : List (List ℕ)) (before : List Said) (expressions : List (List NumberedSymbol)) (numbers : List ℕ) (count : ℕ) → AreSound before → AreSymbols all before expressions → AreFrontNumbers before numbers count
-    → AreSamePairsRead all (active_pairs (take count before)) (flat_map (λ n. pairs_among (expression_kept expressions n)) numbers)
+    → AreSamePairsRead all (active_pairs (take count before)) (flat_map (λ n. pairs_among (item_list expressions n)) numbers)
 front_read all before expressions numbers count h a front =
-    subst (λ w. AreSamePairsRead all w (flat_map (λ n. pairs_among (expression_kept expressions n)) numbers)) (sym (front_pairs before numbers count h front))
+    subst (λ w. AreSamePairsRead all w (flat_map (λ n. pairs_among (item_list expressions n)) numbers)) (sym (front_pairs before numbers count h front))
     (low_read all before expressions numbers a
     (λ n k. let r = from_active_number is_disjoint_item (take count before) n (subst (In n) front.active k) in
     (r.0, subst (λ w. slice_get w n ≡ Some r.0) (take-append-drop count before) (get_join (take count before) (drop count before) n r.0 r.1), r.3)))

@@ -4,7 +4,7 @@ use Rattle.std.proofs.lemmas.List.{Filters.{dedup_is, All-dedup}, Sorted.{All-pe
 use Rattle.std.proofs.Common.{◌≡◌, ℕ, zero, suc, ◌+◌, ◌≤◌, Bool, true, false, cond, Some, List, [], ◌∷◌, flat_map, map, get_or, slice_get, refl, sym, ◌∙◌, ap, subst, arith, leb-true}
 use Rattle.std.specs.{Prelude.{All, ⊤}, Ordering.{is_lt, nat_cmp, ordering_then}, List.{dedup, dedup_from, Sorted.{IsPermutation, IsSortedBy}, Retain.{IsFiltered, DiffersFromLast}}}
 use Rattle.mm_machine.specs.{declared.symbol.NumberedSymbol.{NumberedSymbol}, Language.NumberedSymbols.{AreInOrder, comes_before, name_numbers}}
-use Rattle.mm_frame.{specs.Code.{KeptSymbols.{expression_kept}, KeptPairLists.{pairs_among, with_low_first}}, proofs.lemmas.lists.Members.{in_contains, get_in}}
+use Rattle.mm_frame.{specs.Code.{KeptPairLists.{pairs_among, with_low_first}, KeptLists.{item_list}}, proofs.lemmas.lists.Members.{in_contains, get_in}}
 
 abbrev Pair : Type 0
 Pair = NumberedSymbol × NumberedSymbol
@@ -70,10 +70,10 @@ among_low : (xs : List NumberedSymbol) → All IsLowFirst (pairs_among xs)
 among_low [] = All-nil IsLowFirst
 among_low (x ∷ xs) = All-append IsLowFirst (map (λ y. with_low_first (x, y)) xs) (pairs_among xs) (each_low x xs) (among_low xs)
 
-pub all_low : (expressions : List (List NumberedSymbol)) (numbers : List ℕ) → All IsLowFirst (flat_map (λ n. pairs_among (expression_kept expressions n)) numbers)
+pub all_low : (expressions : List (List NumberedSymbol)) (numbers : List ℕ) → All IsLowFirst (flat_map (λ n. pairs_among (item_list expressions n)) numbers)
 all_low expressions [] = All-nil IsLowFirst
-all_low expressions (n ∷ numbers) = All-append IsLowFirst (pairs_among (expression_kept expressions n)) (flat_map (λ m. pairs_among (expression_kept expressions m)) numbers)
-    (among_low (expression_kept expressions n)) (all_low expressions numbers)
+all_low expressions (n ∷ numbers) = All-append IsLowFirst (pairs_among (item_list expressions n)) (flat_map (λ m. pairs_among (item_list expressions m)) numbers)
+    (among_low (item_list expressions n)) (all_low expressions numbers)
 
 -- sorted, and each once
 pub sorted_in_order : (same : Pair → Pair → Bool) (listed sorted kept : List Pair) → IsPermutation listed sorted → IsSortedBy sorts_before sorted → IsFiltered (DiffersFromLast same) [] sorted kept

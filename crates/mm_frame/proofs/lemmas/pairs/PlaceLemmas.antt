@@ -8,7 +8,7 @@ use Rattle.mm_machine.specs.{declared.symbol.NumberedSymbol.{NumberedSymbol}, La
 use Rattle.mm_machine.specs.Language.NumberedSymbols.{symbol_of, symbols_of, pair_of, kept_pairs, IsNumbered, IsPairNumbered, ArePairsRead}
 use Rattle.mm_frame.specs.{declared.{paired.PairTable.{PairTable}, places.Places.{Places}, earlier.Earlier.{Earlier}}, Language.{Framing.{symbol, expression, active_pairs}, Marks.{Mark}}}
 use Rattle.mm_frame.specs.{Language.Answering.{are_paired}, Code.{BlockMarks.{stays_by}, KeptEarlier.{KnowsEarlier}, KeptPairTable.{row_at, IsDisjointAt, ReadsPairs}}}
-use Rattle.mm_frame.specs.Code.{KeptPlaces.{place_of, ArePlaces, later_place, later_places_at, pair_at}, KeptSymbols.{expression_kept, AreSymbols}, LastItems.{IsRising}, Numbers.{IsNameNumber}}
+use Rattle.mm_frame.specs.Code.{KeptPlaces.{place_of, ArePlaces, later_place, later_places_at, pair_at}, KeptSymbols.{AreSymbols}, LastItems.{IsRising}, Numbers.{IsNameNumber}, KeptLists.{item_list}}
 use Rattle.mm_frame.proofs.lemmas.frames.{Frames.{in_at}, HypothesisNumbers.{rise_step, same_rising, drop_step}}
 use Rattle.mm_frame.proofs.lemmas.lists.Members.{In, in_contains, contains_in, in_map, from_map, in_filter, from_filter, in_flat, from_flat, get_in, has_in, in_cond, first_cases, in_first, in_later}
 use Rattle.mm_frame.proofs.lemmas.{lists.Rising.{get_drop}, names.NumberLemmas.{name_there}, pairs.{ActivePairLemmas.{pairs_with}, PairTableLemmas.{named_in, paired_from, paired_to, active_at_marks}}}
@@ -96,7 +96,7 @@ named_there : (all : List (List ℕ)) (variables : List NumberedSymbol) (k : ℕ
 named_there all variables k y a e = name_there all y.name (All-contains (IsNumbered all) variables y a (in_contains y variables (get_in y variables k e)))
 
 read_at : (all : List (List ℕ)) (before : List Said) (expressions : List (List NumberedSymbol)) (name : List ℕ) (d : ℕ) → AreSymbols all before expressions
-    → (at : IsDisjointAt before name d) → symbols_of all (expression_kept expressions d) ≡ expression (take d before) at.item
+    → (at : IsDisjointAt before name d) → symbols_of all (item_list expressions d) ≡ expression (take d before) at.item
 read_at all before expressions name d a at = a.each d at.item at.there (or_right (is_labelled (at.item).kind) (is_kind Disjoint (at.item).kind) at.disjoint)
 
 found_from : (all : List (List ℕ)) (before : List Said) (table : PairTable) (marks : List Mark) (expressions : List (List NumberedSymbol)) (places : Places) (variables : List NumberedSymbol) (n : ℕ) (first : NumberedSymbol)
@@ -106,7 +106,7 @@ found_from all before table marks expressions places variables n first s k m =
     let x = name_at all first.name in
     let row = from_flat (later_places_at places marks expressions n) k (row_at table first.name) m in
     let d = row.0 in
-    let kept = expression_kept expressions d in
+    let kept = item_list expressions d in
     let stayed = in_cond (stays_by (drop (suc d) marks)) k (flat_map (later_place places n) kept) row.2 in
     let one = from_flat (later_place places n) k kept stayed.1 in
     let later = from_filter (nat_lt n) k (option_to_list (place_of places (one.0).name)) one.2 in
@@ -140,7 +140,7 @@ found_to all before table marks expressions places variables n first s k m =
     let pair = paired_from before x yname (s.reads).sound p.good in
     let d = pair.1 in
     let have = pair.2 in
-    let kept = expression_kept expressions d in
+    let kept = item_list expressions d in
     let item = (have.second).item in
     let said = in_map (symbol (take d before)) yname item.symbols (has_in item.symbols yname (have.second).named) in
     let one = from_map (symbol_of all) (symbol (take d before) yname) kept (subst (In (symbol (take d before) yname)) (sym (read_at all before expressions yname d s.symbols have.second)) said) in

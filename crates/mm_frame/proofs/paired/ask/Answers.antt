@@ -1,18 +1,18 @@
-use Rattle.std.proofs.Common.{ℕ, List, ◌<◌, ◌≤◌, sym, subst, ◌∙◌, Contains}
-use Rattle.mm_frame.{proofs.lemmas.pairs.AskedLemmas.{first_in_rows, first_told, later_common, active_told, next_answer}, specs.Code.Numbers.{IsNameNumber}}
+use Rattle.std.proofs.Common.{ℕ, List, ◌<◌, ◌≤◌, subst, ◌∙◌, Contains}
+use Rattle.mm_frame.proofs.lemmas.pairs.AskedLemmas.{first_in_rows, first_told, later_common, active_told, next_answer}
 use Rattle.mm_frame.proofs.paired.ask.Goals as goal
 
 pub returns-then-is_active_number-clause-value : goal.returns-then-is_active_number-clause-value
 returns-then-is_active_number-clause-value c all before x y table reads e f m a b apart =
     let known = c.known-known.result in
-    let answer = c.known-known.ensures.known all before m x y (subst (λ n. IsNameNumber all n x) (sym c.known-known.ensures.first) a) (subst (λ n. IsNameNumber all n y) (sym c.known-known.ensures.second) b) in
+    let answer = c.known-known.ensures all before m x y a b in
     active_told all before table c.args.blocks.now c.args.first c.args.second x y known.upto known.common reads a b apart answer c.if-is_active_number.ensures
 
 pub returns : goal.returns
 returns c = record {
   value = λ all before x y table reads e f m a b apart. let blocks = c.args.blocks.now in
       let known = c.known-known.result in
-      let answer = c.known-known.ensures.known all before m x y (subst (λ n. IsNameNumber all n x) (sym c.known-known.ensures.first) a) (subst (λ n. IsNameNumber all n y) (sym c.known-known.ensures.second) b) in
+      let answer = c.known-known.ensures all before m x y a b in
       let common = c.first_common-common.ensures in
       let both = first_in_rows blocks c.args.row.now c.args.other.now _ _ known.upto c.first_common-common.result e f (reads.knows c.args.first x a).rising (reads.knows c.args.second y b).rising
       (λ r s. record { some = common.some r s; least = common.least r s; none = common.none r s }) in
@@ -21,10 +21,10 @@ returns c = record {
   asked = λ table e f all before reads m. c.in_ok-keep.ensures all before m (λ x y a b. (
       let blocks = c.args.blocks.now in
       let known = c.known-known.result in
-      let answer = c.known-known.ensures.known all before m x y (subst (λ n. IsNameNumber all n x) (sym c.known-known.ensures.first) a) (subst (λ n. IsNameNumber all n y) (sym c.known-known.ensures.second) b) in
+      let answer = c.known-known.ensures all before m x y a b in
       let common = c.first_common-common.ensures in
       let both = first_in_rows blocks c.args.row.now c.args.other.now _ _ known.upto c.first_common-common.result e f (reads.knows c.args.first x a).rising (reads.knows c.args.second y b).rising
       (λ r s. record { some = common.some r s; least = common.least r s; none = common.none r s }) in
-      let short = subst (λ (w : List ℕ). (count : ℕ) → ((n : ℕ) → Contains w n → n < count) → c.end_of.result ≤ count) e c.end_of.ensures in
-      next_answer all before table blocks c.args.first c.args.second x y known.upto c.end_of.result known.common c.first_common-common.result reads a b answer c.if-is_active_number.ensures both short));
+      let short = subst (λ (w : List ℕ). (count : ℕ) → ((n : ℕ) → Contains w n → n < count) → c.end_of-upto.result ≤ count) e c.end_of-upto.ensures in
+      next_answer all before table blocks c.args.first c.args.second x y known.upto c.end_of-upto.result known.common c.first_common-common.result reads a b answer c.if-is_active_number.ensures both short));
 }

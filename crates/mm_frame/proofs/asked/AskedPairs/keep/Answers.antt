@@ -1,9 +1,6 @@
-use Rattle.std.proofs.{Common.{[], ◌∷◌, sym, subst, All}, lemmas.List.Elements.{All-append, All-cons, All-nil}}
-use Rattle.mm_frame.specs.Code.KeptAsked.{IsKnownPair}
+use Rattle.mm_frame.proofs.lemmas.pairs.AskedLemmas.{answer_kept}
 use Rattle.mm_frame.proofs.asked.AskedPairs.keep.Goals as goal
 
 pub returns : goal.returns
 returns c all before knows is =
-    let known = IsKnownPair all before in
-    let answer = c.args.answer in
-    subst (All known) (sym c.in_ok-push.ensures.items) (All-append known c.args.self.now.answers.items (answer ∷ []) knows (All-cons known answer [] is (All-nil known)))
+    answer_kept all before c.args.self.now.answers c.insert.new.self (c.args.first, c.args.second) c.args.answer is (λ other. c.in_ok-insert.ensures.updates.0 other) knows

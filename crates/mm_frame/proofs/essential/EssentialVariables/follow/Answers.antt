@@ -1,5 +1,5 @@
 use Rattle.std.proofs.Common.{ℕ, ◌∷◌, ◌++◌, ◌<◌, [], List, drop, take, sym, subst, ◌∙◌, length, Contains}
-use Rattle.mm_frame.specs.{declared.essential.EssentialVariable.{EssentialVariable}, Language.Scope.{active_numbers}, Code.{LastItems.{is_essential_item, IsRising}, KeptSymbols.{expression_kept}}}
+use Rattle.mm_frame.specs.{declared.essential.EssentialVariable.{EssentialVariable}, Language.Scope.{active_numbers}, Code.{LastItems.{is_essential_item, IsRising}, KeptLists.{item_list}}}
 use Rattle.mm_frame.{specs.Code.{KeptVariables.{AddsAll, AreVariablesOf}, PairOrder.{is_among}}, proofs.lemmas.frames.HypothesisNumbers.{active_numbers_rise}}
 use Rattle.mm_frame.proofs.lemmas.{frames.VariableLemmas.{variables_left, variables_added}, lists.{Members.{in_contains}, Rising.{among_in}}}
 use Rattle.mm_machine.specs.declared.symbol.NumberedSymbol.{NumberedSymbol}
@@ -28,8 +28,8 @@ returns-in_ok-add_all c before item old symbols number essentials long expressio
     let there = (λ i. is_among (sym essentials i) (sym number i)) ∙ among in
     let adds = c.in_ok-add_all.ensures rising (in_contains c.args.number c.args.essentials.now (among_in c.args.essentials.now c.args.number among)) in
     let cut = subst (λ (w : List EssentialVariable). AddsAll c.args.essentials.now c.args.number c.at.result.now w new) c.truncate.ensures.items adds in
-    let kept = subst (λ (w : List NumberedSymbol). AddsAll c.args.essentials.now c.args.number w (take c.left_count-count.result found) new) (c.at.ensures ∙ (λ i. expression_kept (expressions i) (number i))) cut in
-    let same = subst (λ (w : List ℕ). AddsAll w c.args.number (expression_kept (old ++ symbols ∷ []) (length before)) (take c.left_count-count.result found) new) essentials kept in
-    let here = subst (λ (w : ℕ). AddsAll active w (expression_kept (old ++ symbols ∷ []) (length before)) (take c.left_count-count.result found) new) number same in
+    let kept = subst (λ (w : List NumberedSymbol). AddsAll c.args.essentials.now c.args.number w (take c.left_count-count.result found) new) (c.at.ensures ∙ (λ i. item_list (expressions i) (number i))) cut in
+    let same = subst (λ (w : List ℕ). AddsAll w c.args.number (item_list (old ++ symbols ∷ []) (length before)) (take c.left_count-count.result found) new) essentials kept in
+    let here = subst (λ (w : ℕ). AddsAll active w (item_list (old ++ symbols ∷ []) (length before)) (take c.left_count-count.result found) new) number same in
     subst (λ (w : List ℕ). AreVariablesOf w c.args.expressions.now new) (sym essentials)
     (subst (λ (w : List (List NumberedSymbol)). AreVariablesOf active w new) (sym expressions) (variables_added before item old symbols found new c.left_count-count.result long are gone there here))

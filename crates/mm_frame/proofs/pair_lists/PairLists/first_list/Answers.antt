@@ -1,13 +1,13 @@
 use Rattle.std.proofs.Common.{take, flat_map, sym, subst, All}
-use Rattle.mm_frame.specs.{Language.Framing.{active_pairs}, declared.pair_lists.PairLists.{PairLists}, Code.{KeptSymbols.{expression_kept}, KeptPairLists.{KeepsLists, pairs_among}}}
-use Rattle.mm_frame.{specs.Code.KeptSortedLists.{HasSame}, proofs.lemmas.pairs.{PairListLemmas.{made_one_more, is_list, same_members, front_read}, PairOrderLemmas.{IsLowFirst, all_low}}}
+use Rattle.mm_frame.specs.{Language.Framing.{active_pairs}, declared.pair_lists.PairLists.{PairLists}, Code.{KeptPairLists.{KeepsLists, pairs_among}, KeptLists.{item_list}, KeptSortedLists.{HasSame}}}
+use Rattle.mm_frame.proofs.lemmas.pairs.{PairListLemmas.{made_one_more, is_list, same_members, front_read}, PairOrderLemmas.{IsLowFirst, all_low}}
 use Rattle.mm_frame.proofs.pair_lists.PairLists.first_list.Goals as goal
 
 pub returns-clause-pairs : goal.returns-clause-pairs
 returns-clause-pairs c all before h a front m =
     let new : PairLists = record { lists = c.keep.new.self; made = c.insert.new.self; reach = c.args.self.now.reach } in
     let there = c.in_ok-k.ensures.there in
-    let listed = flat_map (λ n. pairs_among (expression_kept c.args.expressions.now n)) c.args.first.now in
+    let listed = flat_map (λ n. pairs_among (item_list c.args.expressions.now n)) c.args.first.now in
     let kept = c.in_order.result.items in
     let pairs = active_pairs (take c.args.count before) in
     let same = subst (λ w. HasSame w kept) c.in_ok-pairs.ensures c.in_order.ensures.same in

@@ -1,5 +1,5 @@
 use Rattle.std.{proofs.{Common.{ℕ, [], Some, cond, nat_eq, List, take, drop, take-append-drop, append-nil, flat_map, sym, ap, subst, ◌∙◌}, lemmas.List.{take_rest}}, specs.HashMap.{get}}
-use Rattle.mm_frame.specs.{Language.Framing.{active_pairs}, declared.pair_lists.PairLists.{PairLists}, Code.{KeptPairLists.{KeepsLists, IsList, pairs_among}, KeptSymbols.{expression_kept}}}
+use Rattle.mm_frame.specs.{Language.Framing.{active_pairs}, declared.pair_lists.PairLists.{PairLists}, Code.{KeptPairLists.{KeepsLists, IsList, pairs_among}, KeptLists.{item_list}}}
 use Rattle.mm_frame.proofs.lemmas.{lists.Members.{In, in_right}, pairs.{ActivePairLemmas.{pairs_at}, PairListLemmas.{made_one_more, whole_front, front_and_own, active_read}}}
 use Rattle.mm_machine.specs.Language.NumberedSymbols.{AreSamePairsRead}
 use Rattle.mm_frame.proofs.pair_lists.PairLists.list_of.Goals as goal
@@ -13,7 +13,7 @@ returns-clause-pairs c all before h a e m =
     let both = take-append-drop n disjoints ∙ e in
     let front = c.count_to_last-front.ensures all before own a both in
     let added = flat_map (pairs_at before) own in
-    let listed = λ (w : List ℕ). AreSamePairsRead all added (flat_map (λ k. pairs_among (expression_kept c.args.expressions.now k)) w) in
+    let listed = λ (w : List ℕ). AreSamePairsRead all added (flat_map (λ k. pairs_among (item_list c.args.expressions.now k)) w) in
     let read = subst listed (sym (take_rest disjoints n)) (active_read all before c.args.expressions.now own a (λ k q. subst (λ w. In k w) both (in_right k outer own q))) in
     let made = c.in_ok-k.ensures.pairs all (active_pairs (take c.count_to_last-front.result before)) added (c.in_ok-base.ensures.pairs all before own h a both front m) read in
     record { list = made.list; there = made.there; read = subst (λ w. AreSamePairsRead all w made.list.items) (front_and_own before outer own c.count_to_last-front.result h both front) made.read; order = made.order }

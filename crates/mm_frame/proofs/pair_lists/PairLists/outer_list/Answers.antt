@@ -1,5 +1,5 @@
 use Rattle.std.{proofs.{Common.{ℕ, ◌++◌, Some, cond, nat_eq, List, take, drop, take-append-drop, append_assoc, flat_map, sym, ap, subst, ◌∙◌}, lemmas.List.{take_rest}}, specs.HashMap.{get}}
-use Rattle.mm_frame.specs.{Language.Framing.{active_pairs}, declared.pair_lists.PairLists.{PairLists}, Code.{KeptPairLists.{KeepsLists, pairs_among}, KeptSymbols.{expression_kept}}}
+use Rattle.mm_frame.specs.{Language.Framing.{active_pairs}, declared.pair_lists.PairLists.{PairLists}, Code.{KeptPairLists.{KeepsLists, pairs_among}, KeptLists.{item_list}}}
 use Rattle.mm_frame.proofs.lemmas.{lists.Members.{In, in_left, in_right}, pairs.{ActivePairLemmas.{pairs_at}, PairListLemmas.{made_one_more, front_and_more, active_read}}}
 use Rattle.mm_machine.specs.Language.NumberedSymbols.{AreSamePairsRead}
 use Rattle.mm_frame.proofs.pair_lists.PairLists.outer_list.Goals as goal
@@ -14,7 +14,7 @@ returns-clause-pairs c all before rest h a e f m =
     let whole = sym (append_assoc done own rest) ∙ ap (λ w. w ++ rest) both ∙ e in
     let front = c.count_to_last-front.ensures all before (own ++ rest) a whole in
     let added = flat_map (pairs_at before) own in
-    let listed = λ (w : List ℕ). AreSamePairsRead all added (flat_map (λ k. pairs_among (expression_kept c.args.expressions.now k)) w) in
+    let listed = λ (w : List ℕ). AreSamePairsRead all added (flat_map (λ k. pairs_among (item_list c.args.expressions.now k)) w) in
     let read = subst listed (sym (take_rest outer n)) (active_read all before c.args.expressions.now own a (λ k q. subst (λ w. In k w) whole (in_right k done (own ++ rest) (in_left k own rest q)))) in
     let made = c.in_ok-k.ensures.pairs all (active_pairs (take c.count_to_last-front.result before)) added (c.in_ok-base.ensures.pairs all before h a front m) read in
     record { list = made.list; there = made.there; read = subst (λ w. AreSamePairsRead all w made.list.items) (front_and_more before outer done own c.args.count c.count_to_last-front.result h both f front) made.read; order = made.order }
