@@ -191,13 +191,6 @@ struct Beside<'a> {
     same: bool,
 }
 
-/// The number of the item of an older base that may be the next one, and whether all items so far are its first ones.
-#[derive(Clone, Copy)]
-struct Reached {
-    next: usize,
-    same: bool,
-}
-
 /// The number of the item of the older base that may be the next one: after its first items this is their count.
 fn place_next(beside: Beside, count: usize) -> usize
     ensures { beside.entry.same ≡ true → result ≡ count }
@@ -206,21 +199,22 @@ fn place_next(beside: Beside, count: usize) -> usize
 }
 
 /// Reads one more item of the files, which may be the next one of an older base: takes it over from there, if all items before
-/// it are the first ones there. After out of memory there may be more names.
-fn read_next(
+/// it are the first ones there. Answers where the older base is then. After out of memory there may be more names.
+fn read_next<'a>(
     draft: &mut Draft,
     alloc: Global,
     names: &mut Names,
     files: &Files,
     item: &Item,
-    beside: Beside,
-) -> Result<Reached, AllocError>
+    beside: Beside<'a>,
+) -> Result<Beside<'a>, AllocError>
     requires read { CanBeRead files.now item.now }
     requires older { HasOlder names.old files.now beside.base.now }
     ensures grows { Begins names.old names.new }
-    ensures read { IfOk result (λ reached. (one : meant.Said) × Says files.now item.now one
+    ensures base { IfOk result (λ after. after.base ≡ beside.entry.base) }
+    ensures read { IfOk result (λ after. (one : meant.Said) × Says files.now item.now one
         × ((said : List meant.Said) → IsDraftLater names.old said draft.old → AreFirstIf beside.entry.same files.now beside.entry.base.now said
-        → IsDraftLater names.new (said ++ one ∷ []) draft.new × AreFirstIf reached.same files.now beside.entry.base.now (said ++ one ∷ []))) }
+        → IsDraftLater names.new (said ++ one ∷ []) draft.new × AreFirstIf after.same files.now beside.entry.base.now (said ++ one ∷ []))) }
 {
     names.distinct();
     // A law: the same bytes say the same.
@@ -230,22 +224,21 @@ fn read_next(
     if !is_again(base, i, item) {
         let label = read_new(draft, alloc, names, files, item)?;
         let next = place_behind(base, i, label);
-        return Ok(Reached { next, same: false });
+        let same = false;
+        return Ok(Beside { base, next, same });
     }
-    let reached = Reached {
-        next: i.saturating_add(1),
-        same,
-    };
+    let next = i.saturating_add(1);
+    let after = Beside { base, next, same };
     let Some(known) = known_of(base, i, item) else {
         read_new(draft, alloc, names, files, item)?;
-        return Ok(reached);
+        return Ok(after);
     };
     if same {
         take_over_known(draft, alloc, files, item, KnownBy { base, known })?;
-        return Ok(reached);
+        return Ok(after);
     }
     read_known(draft, alloc, names, files, item, known)?;
-    Ok(reached)
+    Ok(after)
 }
 
 /// Reads some more items of the files, the first ones, with the help of an older base. After out of memory there may be more
@@ -264,18 +257,13 @@ fn read_each(
     ensures read { OnOk result (IsDraftLater names.old [] draft.old
         → (said : List meant.Said) × AllZip (Says files.now) items.now said × IsDraftLater names.new said draft.new) }
 {
-    let mut reached = Reached {
+    let mut beside = Beside {
+        base: old,
         next: 0,
         same: true,
     };
     for item in items {
-        let Reached { next, same } = reached;
-        let beside = Beside {
-            base: old,
-            next,
-            same,
-        };
-        reached = read_next(draft, alloc, names, files, item, beside)?;
+        beside = read_next(draft, alloc, names, files, item, beside)?;
     }
     Ok(())
 }

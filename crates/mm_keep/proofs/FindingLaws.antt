@@ -6,12 +6,11 @@ use Rattle.mm_proof.specs.{mm_text.Language.Place.{line_at, column_at}, mm_store
 use Rattle.mm_proof.specs.mm_frame.{declared.FrameNumber.{FrameNumber}, Language.{Base.{BaseView, IsOfFiles, said_at, fault_at, is_sound_at, is_proof_at}, Laws.{SaidAreLabelled}}}
 use Rattle.mm_proof.specs.mm_statement.Language.{Item.{Kind, Axiom, Theorem, is_assertion, is_kind, passed}, Statement.{Says}}
 use Rattle.mm_proof.specs.{mm_verdict.Language.{ItemLaws.{HasVerdictAt, SpotsAreIn, TellsSpotIn, IsSpotIn}, VerdictAt.{IsVerdictAt}}, mm_machine.declared.{Spot.{Spot}, Verdict.{Verdict}}}
-use Rattle.mm_keep.specs.{declared.finding.At.{At}, Code.{FoundKinds.{IsFoundAs, kind_of_verdict}, OfFiles.{IsPlaceIn}, KeyedTold.{word_start, word_spelling, IsKeyedPlaceOfSpot, IsKeyedTold}}}
+use Rattle.mm_keep.specs.{declared.finding.At.{At}, Code.{OfFiles.{IsPlaceIn}, KeyedTold.{word_start, word_spelling, IsKeyedPlaceOfSpot, IsKeyedTold}}}
 use Rattle.mm_keep.{specs.Language.{Told.{Told, Quiet, AnAxiom, Proved, Incomplete, Wrong, Fault}, WordPlaces.{proof_word}}, proofs.FoundLemmas.{ItemsStand}}
 use Rattle.mm_keep.proofs.{SpotLemmas.{letter_in, letter_within, placed_in}, ZipLemmas.{zip_found}}
 use Rattle.mm_proof.specs.mm_store.declared.item.Item as store
 use Rattle.mm_proof.specs.mm_machine.declared.Verdict.TheVariants as verdicts
-use Rattle.mm_keep.specs.declared.finding.FindingKind.TheVariants as kinds
 
 -- a byte of an item has a place
 has_place : (files : FilesView) (item : store.Item) → StandsIn files item → (byte : ℕ) → item.start + byte ≤ item.end → (at : At) × IsPlaceIn files item byte at
@@ -29,7 +28,7 @@ kind_of kind = grind (arith, common_steps) steps 200000
 
 module _ (files : FilesView) (all : List store.Item) (base : BaseView) (i : ℕ) (item : store.Item) (found : slice_get all i ≡ Some item) (says : Says files item (said_at base i)) (stands : StandsIn files item) where
   -- its fault, at a word
-  pub fault_told : (word : ℕ) (number : FrameNumber) → fault_at base i ≡ Some (word, number) → IsFoundAs files all base i kinds.Fault
+  pub fault_told : (word : ℕ) (number : FrameNumber) → fault_at base i ≡ Some (word, number) → (one : Told) × IsKeyedTold files all base i one
   fault_told word number fault =
       let there = says.read in
       let at = has_place files item stands (word_start (slice_get there.words word) + 0) (letter_within files item there word 0 (omega arith)) in
@@ -38,7 +37,6 @@ module _ (files : FilesView) (all : List store.Item) (base : BaseView) (i : ℕ)
       let shown = word_spelling (slice_range read.text item.start item.end) (slice_get read.words word) in (
         Fault number (record { at = at.0; word = shown }),
         record { word = word; fault = fault; item = item; there = found; is_shown = record { has_place = place; is_word = refl } },
-        refl,
       )
 
   -- the place of a spot of its proof
@@ -49,14 +47,14 @@ module _ (files : FilesView) (all : List store.Item) (base : BaseView) (i : ℕ)
       (place.0, record { item = item; there = found; has_place = place.1 word spot.letter says.read refl })
 
   -- the verdict on its proof
-  pub verdict_told : is_proof_at base i ≡ true → (v : Verdict) → IsVerdictAt base i v → TellsSpotIn (said_at base i).proof v → IsFoundAs files all base i (kind_of_verdict v)
-  verdict_told proof verdicts.Proved is spot_in = (Proved, record { proof = proof; is_verdict = is }, refl)
+  pub verdict_told : is_proof_at base i ≡ true → (v : Verdict) → IsVerdictAt base i v → TellsSpotIn (said_at base i).proof v → (one : Told) × IsKeyedTold files all base i one
+  verdict_told proof verdicts.Proved is spot_in = (Proved, record { proof = proof; is_verdict = is })
   verdict_told proof (verdicts.Incomplete spot) is spot_in =
       let place = spot_place spot spot_in in
-      (Incomplete place.0, record { spot = spot; has_verdict = record { proof = proof; is_verdict = is }; is_place = place.1 }, refl)
+      (Incomplete place.0, record { spot = spot; has_verdict = record { proof = proof; is_verdict = is }; is_place = place.1 })
   verdict_told proof (verdicts.Wrong number spot) is spot_in =
       let place = spot_place spot spot_in in
-      (Wrong number place.0, record { spot = spot; has_verdict = record { proof = proof; is_verdict = is }; is_place = place.1 }, refl)
+      (Wrong number place.0, record { spot = spot; has_verdict = record { proof = proof; is_verdict = is }; is_place = place.1 })
 
   -- what it is, if it is sound
   sound_told : ((v : Verdict) × IsVerdictAt base i v) → SpotsAreIn → is_sound_at base i ≡ true → (one : Told) × IsKeyedTold files all base i one
@@ -65,14 +63,13 @@ module _ (files : FilesView) (all : List store.Item) (base : BaseView) (i : ℕ)
         | inl is ↦ (AnAxiom, record { sound = sound; kind = is })
         | inr (inl is) ↦
             let proof : is_proof_at base i ≡ true = (λ k. sound k && is_kind Theorem (is k)) in
-            let told = verdict_told proof verdict.0 verdict.1 (spots base i verdict.0 verdict.1) in
-            (told.0, told.1)
+            verdict_told proof verdict.0 verdict.1 (spots base i verdict.0 verdict.1)
         | inr (inr other) ↦ (Quiet, record { sound = sound; kind = other })
       ]
 
   item_told : ((v : Verdict) × IsVerdictAt base i v) → SpotsAreIn → (fault : Option (ℕ × FrameNumber)) → fault_at base i ≡ fault → (one : Told) × IsKeyedTold files all base i one
   item_told verdict spots None is = sound_told verdict spots (ap is_none is)
-  item_told verdict spots (Some fault) is = let told = fault_told fault.0 fault.1 is in (told.0, told.1)
+  item_told verdict spots (Some fault) is = fault_told fault.0 fault.1 is
 
 -- ---- the items of files
 

@@ -2,7 +2,6 @@
 pub mod KeptCheck
 pub mod OfFiles
 pub mod KeyedTold
-pub mod FoundKinds
 pub mod KeptSession
 pub mod Asked
 pub mod Cited

@@ -4,12 +4,12 @@ ghost use Rattle.std.specs.Prelude.{◌≡◌, ◌↔◌, ◌<◌, ℕ, List, tr
 ghost use Rattle.mm_proof.specs.{mm_store.Language.{FileFacts.{CanBeRead, StandsIn}, FilesView.{FilesView}}, mm_frame.Language.{Answering.{IsBase}, Base.{BaseView, said_at, is_sound_at, is_proof_at}}};
 ghost use Rattle.mm_proof.specs.{mm_statement.Language.Item.{Theorem, is_kind}, mm_verdict.Language.VerdictAt.{IsVerdictAt}};
 ghost use Rattle.mm_keep.specs.Language.{Findings.{told, counted}, Derivable.{IsDerivable, IsLabelDerivable}, Sessions.{HasAssertion, HasItem, IsAssertion, IsFinding, IsTally, IsVerdictOf, OfItems}};
-ghost use Rattle.mm_keep.specs.{Language.Told.{Told, counts}, Code.{FoundKinds.{IsFoundAs}, KeptSession.{AreChecked}, KeyedTold.{AreKeyedTold, IsKeyedTold, TellsFaultAt}}};
-ghost use Rattle.mm_keep.specs.{Code.OfFiles.{IsOf, HasChecked, HasCheckedItem, HasVerdictOf}, declared.{answers.KeepError.TheVariants.{NoAssertion}, finding.Finding.TheVariants.{Proved}}};
+ghost use Rattle.mm_keep.specs.{Language.Told.{Told, counts}, Code.{KeptSession.{AreChecked}, KeyedTold.{AreKeyedTold, IsKeyedTold, TellsFaultAt}, OfFiles.{IsOf, HasChecked, HasCheckedItem, HasVerdictOf}}};
+ghost use Rattle.mm_keep.specs.declared.{answers.KeepError.TheVariants.{NoAssertion}, finding.Finding.TheVariants.{Proved}};
 ghost use Rattle.mm_proof.specs.mm_store.declared.item.Item as store;
 ghost use Rattle.mm_proof.specs.mm_statement.Language.Statement as spoken;
 
-use crate::finding::{Finding, FindingKind};
+use crate::finding::Finding;
 use crate::kept::Checks;
 use crate::seen::{place_of_spot, seen_at};
 use crate::session::Session;
@@ -96,31 +96,15 @@ fn finding_of<'a>(files: &'a Files, base: &Base, checked: &Checks, i: usize) -> 
     }
 }
 
-/// What is found of the item with this number, without its place and word, which are not looked for.
-fn kind_of(base: &Base, checked: &Checks, i: usize) -> FindingKind
-    requires { (files : FilesView) × HasCheckedItem files base.now checked.now i }
-    ensures { (names : List (List ℕ)) (files : FilesView) (view : BaseView) → IsOf names files base.now view → AreChecked view checked.now
-        → i < length view → IsFoundAs files base.now.items view i result }
-{
-    spots_are_in(); // A law: the spot of a verdict is in its proof.
-    if let Some(_fault) = base.fault(i) {
-        return FindingKind::Fault;
-    }
-    match checked.get(i) {
-        Some(check) => FindingKind::of_verdict(check.verdict()),
-        None => unproved(base.item(i).kind).kind(),
-    }
-}
-
 /// How many items there are of each kind that a summary counts.
-fn tally_of(base: &Base, checked: &Checks) -> Tally
-    requires { (files : FilesView) × HasChecked files base.now checked.now }
-    ensures { (names : List (List ℕ)) (files : FilesView) (view : BaseView) → IsOf names files base.now view → AreChecked view checked.now
-        → (all : List Told) × AreKeyedTold files base.now.items view all × (counted result ≡ counts all) }
+fn tally_of(files: &Files, base: &Base, checked: &Checks) -> Tally
+    requires { HasChecked files.now base.now checked.now }
+    ensures { (names : List (List ℕ)) (view : BaseView) → IsOf names files.now base.now view → AreChecked view checked.now
+        → (all : List Told) × AreKeyedTold files.now base.now.items view all × (counted result ≡ counts all) }
 {
     let mut tally = Tally::none();
     for i in 0..base.count() {
-        tally = tally.with_kind(kind_of(base, checked, i));
+        tally = tally.with(&finding_of(files, base, checked, i));
     }
     tally
 }
@@ -179,7 +163,8 @@ impl Session {
         }
     }
 
-    /// How many items there are of each kind that a summary counts. It takes no memory.
+    /// How many items there are of each kind that a summary counts. It takes no memory, and for each item at fault, and each theorem
+    /// that is wrong or incomplete, a look at its piece.
     pub fn tally(&self) -> Tally
         ensures { IsTally self.now (counted result) }
     {
@@ -187,6 +172,6 @@ impl Session {
         mm_proof::items_stand(); // A law: each item is where it says.
         spots_are_in(); // A law: the spot of a verdict is in its proof.
         self.files.holds_pieces();
-        tally_of(&self.base, &self.checked)
+        tally_of(&self.files, &self.base, &self.checked)
     }
 }

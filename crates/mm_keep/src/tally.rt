@@ -1,9 +1,9 @@
 //! How many items there are of each kind that a summary counts.
 
 ghost use Rattle.std.specs.Prelude.{◌≡◌, ◌+◌, ◌++◌, ◌∷◌, [], List};
-ghost use Rattle.mm_keep.specs.{Code.FoundKinds.{one_more}, Language.{Findings.{counted, told, AreFew}, Told.{Told, counts}}};
+ghost use Rattle.mm_keep.specs.Language.{Findings.{counted, told, AreFew}, Told.{Told, counts}};
 
-use crate::finding::{Finding, FindingKind};
+use crate::finding::Finding;
 
 /// How many there are: sound `$a`; sound `$p`, and of these the proved, the incomplete and the wrong; and faults.
 #[derive(Clone, Copy, Debug, PartialEq, Eq)]
@@ -42,31 +42,23 @@ impl Tally {
         requires { (all : List Told) × (counted self ≡ counts all) × AreFew all }
         ensures { (all : List Told) → counted self ≡ counts all → counted result ≡ counts (all ++ told finding.now ∷ []) }
     {
-        self.with_kind(finding.kind())
-    }
-
-    /// Counts one item more, of which this is found.
-    pub(crate) fn with_kind(self, kind: FindingKind) -> Tally
-        requires { (all : List Told) × (counted self ≡ counts all) × AreFew all }
-        ensures { counted result ≡ one_more kind (counted self) }
-    {
         let mut tally = self;
-        match kind {
-            FindingKind::Quiet => (),
-            FindingKind::Axiom => tally.axioms += 1,
-            FindingKind::Proved => {
+        match finding {
+            Finding::Quiet => (),
+            Finding::Axiom => tally.axioms += 1,
+            Finding::Proved => {
                 tally.theorems += 1;
                 tally.proved += 1;
             }
-            FindingKind::Incomplete => {
+            Finding::Incomplete(_) => {
                 tally.theorems += 1;
                 tally.incomplete += 1;
             }
-            FindingKind::Wrong => {
+            Finding::Wrong(..) => {
                 tally.theorems += 1;
                 tally.wrong += 1;
             }
-            FindingKind::Fault => tally.faults += 1,
+            Finding::Fault(..) => tally.faults += 1,
         }
         tally
     }
