@@ -163,8 +163,8 @@ impl Session {
         }
     }
 
-    /// How many items there are of each kind that a summary counts. It takes no memory. As in a report, a place costs one look at
-    /// its piece.
+    /// How many items there are of each kind that a summary counts. It takes no memory; a place costs one look at its piece, as
+    /// in a report.
     pub fn tally(&self) -> Tally
         ensures { IsTally self.now (counted result) }
     {
