@@ -1,10 +1,9 @@
 -- What a base and its files say of one item.
-use Rattle.std.proofs.lemmas.{Grind.{common_steps}, List.Sums.{sum_by_push}, Option.{get_or_from_slice_get, same_Some, slice_get_within}}
-use Rattle.std.proofs.Common.{◌≡◌, ◌⊎◌, ℕ, suc, ◌+◌, Bool, cond, count_by, Some, List, [], ◌∷◌, ◌++◌, inl, inr, length-append, length, slice_get, sym, ◌∙◌, ap, subst, arith}
+use Rattle.std.proofs.lemmas.{Grind.{common_steps}, Option.{get_or_from_slice_get, same_Some, slice_get_within}}
+use Rattle.std.proofs.Common.{◌≡◌, ◌⊎◌, ℕ, suc, ◌+◌, Some, List, [], ◌∷◌, ◌++◌, inl, inr, length-append, length, slice_get, sym, ◌∙◌, ap, subst, arith}
 use Rattle.mm_proof.specs.{mm_store.Language.{FilesView.{FilesView}, FileFacts.{CanBeRead, StandsIn}}, mm_frame.{Language.Base.{BaseView, said_at}, declared.base.Base.{Base}}}
 use Rattle.mm_proof.specs.mm_statement.Language.{Item.{passed}, Statement.{Says}}
-use Rattle.mm_keep.specs.{Code.{OfFiles.{IsOf, HasItemOf}, KeyedTold.{IsKeyedTold}}, Language.Told.{Told, Quiet, AnAxiom, Proved, Incomplete, Wrong, Fault, Counts, counts}}
-use Rattle.mm_keep.proofs.ZipLemmas.{zip_found}
+use Rattle.mm_keep.{specs.{Code.{OfFiles.{IsOf, HasItemOf}, KeyedTold.{IsKeyedTold}}, Language.Told.{Told}}, proofs.ZipLemmas.{zip_found}}
 use Rattle.mm_proof.specs.mm_store.declared.item.Item as store
 
 -- what it says
@@ -42,24 +41,3 @@ told_more files found view n all one t f = record {
     | inr h ↦ subst (λ m. IsKeyedTold files found view m other) (sym (h.0 ∙ f.count)) (subst (IsKeyedTold files found view n) h.1 t)
   ];
 }
-
--- ---- how one more is counted
-
--- one of these is one more
-abbrev CountsOne : (Told → Bool) → List Told → Told → Type 0
-CountsOne test all one = count_by test (all ++ one ∷ []) ≡ count_by test all + cond (test one) 1 0
-
-counted_one : (test : Told → Bool) (all : List Told) (one : Told) → CountsOne test all one
-counted_one test all one = sum_by_push (λ told. cond (test told) 1 0) all one
-
--- the counts after one more is reported
-abbrev pub one_more : Told → Counts → Counts
-one_more Quiet c = c
-one_more AnAxiom c = record c { axioms = c.axioms + 1 }
-one_more Proved c = record c { theorems = c.theorems + 1; proved = c.proved + 1 }
-one_more (Incomplete at) c = record c { theorems = c.theorems + 1; incomplete = c.incomplete + 1 }
-one_more (Wrong number at) c = record c { theorems = c.theorems + 1; wrong = c.wrong + 1 }
-one_more (Fault number shown) c = record c { faults = c.faults + 1 }
-
-pub counts_more : (all : List Told) (one : Told) → counts (all ++ one ∷ []) ≡ one_more one (counts all)
-counts_more all one = grind (arith, common_steps, counted_one) steps 200000
