@@ -113,7 +113,8 @@ def closing(tokens, at):
 class Function:
     """A function: its name, what it belongs to, the trait that asks for it, whether it is public, its signature, its body, and the first and last token of the latter.
 
-    `applied` has what the type is applied to, if that is no parameter: `+BufWriter+W` of a `Writing<BufWriter<W>>`, as the prover writes it."""
+    `applied` has what the type is applied to, if that is no parameter: `+BufWriter+W` of a `Writing<BufWriter<W>>`, as the prover writes it;
+    of a function of a trait, what that is applied to: `ReadFailed` of a `From<ReadFailed>`."""
 
     def __init__(self, name, owner, trait, public, signature, body, braces, applied=""):
         self.name, self.owner, self.trait, self.public, self.applied = name, owner, trait, public, applied
@@ -141,8 +142,8 @@ def owner_of(header):
 
 
 def applied_in(header):
-    """What the type of an `impl` that is of no trait is applied to, as the prover writes it; nothing if these are its parameters alone."""
-    if header[0] == "trait" or "for" in header:
+    """What the type of an `impl` is applied to, or if it is of a trait, what that is, as the prover writes it; nothing if these are its parameters alone."""
+    if header[0] == "trait":
         return ""
     depth, given, at = 0, set(), 1
     if header[1] == "<":
@@ -152,6 +153,9 @@ def applied_in(header):
                 break
             given |= {header[at + 1]} if depth == 1 and header[at] in ("<", ",") else set()
         at += 1
+    if "for" in header[at:]:
+        of_trait = header[at + 1 : header.index("for", at)]
+        return "".join(str(word) for word in of_trait if WORD.fullmatch(word) and word not in given)
     handed = [word for word in header[at + 1 :] if WORD.fullmatch(word)]
     return "".join(f"+{word}" for word in handed) if {*handed} - given else ""
 

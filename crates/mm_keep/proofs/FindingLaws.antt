@@ -28,7 +28,7 @@ kind_of kind = grind (arith, common_steps) steps 200000
 
 module _ (files : FilesView) (all : List store.Item) (base : BaseView) (i : ℕ) (item : store.Item) (found : slice_get all i ≡ Some item) (says : Says files item (said_at base i)) (stands : StandsIn files item) where
   -- its fault, at a word
-  pub fault_told : (word : ℕ) (number : FrameNumber) → fault_at base i ≡ Some (word, number) → (one : Told) × IsKeyedTold files all base i one
+  fault_told : (word : ℕ) (number : FrameNumber) → fault_at base i ≡ Some (word, number) → (one : Told) × IsKeyedTold files all base i one
   fault_told word number fault =
       let there = says.read in
       let at = has_place files item stands (word_start (slice_get there.words word) + 0) (letter_within files item there word 0 (omega arith)) in
@@ -47,7 +47,7 @@ module _ (files : FilesView) (all : List store.Item) (base : BaseView) (i : ℕ)
       (place.0, record { item = item; there = found; has_place = place.1 word spot.letter says.read refl })
 
   -- the verdict on its proof
-  pub verdict_told : is_proof_at base i ≡ true → (v : Verdict) → IsVerdictAt base i v → TellsSpotIn (said_at base i).proof v → (one : Told) × IsKeyedTold files all base i one
+  verdict_told : is_proof_at base i ≡ true → (v : Verdict) → IsVerdictAt base i v → TellsSpotIn (said_at base i).proof v → (one : Told) × IsKeyedTold files all base i one
   verdict_told proof verdicts.Proved is spot_in = (Proved, record { proof = proof; is_verdict = is })
   verdict_told proof (verdicts.Incomplete spot) is spot_in =
       let place = spot_place spot spot_in in
@@ -80,7 +80,7 @@ zip_there R (w ∷ xs) (z ∷ ys) (suc i) a less = zip_there R xs ys i a.1 (omeg
 zip_there R xs ys i a less = grind (arith, common_steps) steps 200000
 
 -- the item with a number says what the base says it does, and is where it says
-pub item_at : (files : FilesView) (found : List store.Item) (base : BaseView) (i : ℕ) → AllZip (Says files) found base → All (StandsIn files) found → i < length base
+item_at : (files : FilesView) (found : List store.Item) (base : BaseView) (i : ℕ) → AllZip (Says files) found base → All (StandsIn files) found → i < length base
     → (item : store.Item) × (slice_get found i ≡ Some item) × Says files item (said_at base i) × StandsIn files item
 item_at files found base i each stand less =
     let there = zip_there (Says files) found base i each less in
