@@ -151,31 +151,24 @@ fn put_needed(
     put_numbers(symbols, numbers)
 }
 
-/// An older base, and what it knows of an item.
-#[derive(Clone, Copy)]
-struct KnownBy<'a> {
-    base: &'a Base,
-    known: KnownStatement<'a>,
-}
-
 /// Takes one more item over from an older base, which knows it. All items before it are the first ones of the older base.
 fn take_over_known(
     draft: &mut Draft,
     alloc: Global,
     files: &Files,
     item: &Item,
-    by: KnownBy,
+    base: &Base,
+    known: KnownStatement,
 ) -> Result<(), AllocError>
     requires read { CanBeRead files.now item.now }
-    requires known { (names : List (List ℕ)) × IsKnownItem names files.now item.now by.known }
+    requires known { (names : List (List ℕ)) × IsKnownItem names files.now item.now known }
     ensures read { OnOk result ((one : meant.Said) × Says files.now item.now one
-        × ((all : List (List ℕ)) (base : BaseView) (said : List meant.Said) → IsBaseBy all base by.entry.base.now
-        → AllZip (Says files.now) by.entry.base.now.items base
-        → AreFirst base said → IsKnownItem all files.now item.now by.entry.known
-        → IsSoundAgain all by.entry.base.now.items base (length said) item.now by.entry.known
+        × ((all : List (List ℕ)) (older : BaseView) (said : List meant.Said) → IsBaseBy all older base.now
+        → AllZip (Says files.now) base.now.items older
+        → AreFirst older said → IsKnownItem all files.now item.now known.entry
+        → IsSoundAgain all base.now.items older (length said) item.now known.entry
         → IsDraft all said draft.old → IsDraft all (said ++ one ∷ []) draft.new)) }
 {
-    let KnownBy { base, known } = by;
     put_needed(item.kind, known.symbols, &mut draft.numbers)?;
     let statement = Statement::known(files, item, known.label);
     // A law: the same bytes say the same.
@@ -234,7 +227,7 @@ fn read_next<'a>(
         return Ok(after);
     };
     if same {
-        take_over_known(draft, alloc, files, item, KnownBy { base, known })?;
+        take_over_known(draft, alloc, files, item, base, known)?;
         return Ok(after);
     }
     read_known(draft, alloc, names, files, item, known)?;

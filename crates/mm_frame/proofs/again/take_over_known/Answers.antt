@@ -13,7 +13,7 @@ returns c =
             statement,
             says,
             λ all base said by each front known again d.
-                let here = same_again c.args.files.now c.args.by.base.now.items base _ c.args.item.now c.one_range_says_one.ensures each again.again statement says in
+                let here = same_again c.args.files.now c.args.base.now.items base _ c.args.item.now c.one_range_says_one.ensures each again.again statement says in
                 let read = sym (ap (λ (x : Said). is_read x.kind) here) ∙ again.read in
                 let numbers = λ (u : uses_numbers statement.kind ≡ true). subst (λ (n : List ℕ). AreNameNumbers all n statement.symbols) (sym (c.in_ok-put_needed.ensures (ap (λ (x : Said). uses_numbers x.kind) (sym says.is) ∙ u)))
                 (known.symbols statement says) in
