@@ -9,7 +9,7 @@ pub mod Codes
 pub mod KeptNames
 pub mod KeptLabels
 pub mod KeptTables
-pub mod TakenOver
+pub mod FromOlder
 pub mod KeptScope
 pub mod SeenNumbers
 pub mod KeptLists
@@ -26,9 +26,9 @@ pub mod KeptActiveItems
 pub mod KeptAssertions
 pub mod KeptBase
 pub mod PairOrder
-pub mod KeptPairTable
+pub mod KeptDisjointRows
 pub mod KeptPlaces
-pub mod KeptAsked
+pub mod KeptAnswers
 pub mod KeptVariables
 pub mod BaseInside
 pub mod KnownItem

@@ -6,7 +6,7 @@ ghost use Rattle.mm_frame.specs.{Language.{Scope.{active_numbers}, Marks.{mark_o
 ghost use Rattle.mm_statement.specs.Language.Statement.{kind_of};
 ghost use Rattle.mm_statement.specs.Language.Item as meant;
 
-use crate::active::ActiveNumbers;
+use crate::active_numbers::ActiveNumbers;
 use crate::blocks::Blocks;
 use crate::essential::{EssentialVariable, EssentialVariables};
 use crate::expressions::Expressions;
@@ -62,7 +62,7 @@ fn changes_active(item: TakenItem) -> bool
 }
 
 /// Goes on with the active items of one sort past one more item; `of_sort` says whether its kind is of the sort.
-fn follow(
+fn add_item(
     numbers: &mut ActiveNumbers,
     blocks: &Blocks,
     of_sort: bool,
@@ -126,7 +126,7 @@ impl ActiveItems {
     }
 
     /// Goes on past one more item: these are the blocks with it, and the symbols of all items with its own.
-    pub fn follow(
+    pub fn add_item(
         &mut self,
         blocks: &Blocks,
         expressions: &Expressions,
@@ -140,10 +140,10 @@ impl ActiveItems {
         if !changes_active(item) {
             return Ok(());
         }
-        follow(&mut self.essentials, blocks, is_essential(item.kind), item)?;
+        add_item(&mut self.essentials, blocks, is_essential(item.kind), item)?;
         self.variables
-            .follow(self.essentials.as_slice(), expressions, item.number)?;
-        follow(&mut self.disjoints, blocks, is_disjoint(item.kind), item)?;
+            .add_item(self.essentials.as_slice(), expressions, item.number)?;
+        add_item(&mut self.disjoints, blocks, is_disjoint(item.kind), item)?;
         Ok(())
     }
 }

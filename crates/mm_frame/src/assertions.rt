@@ -2,8 +2,8 @@
 
 ghost use Rattle.std.specs.Prelude.{◌≡◌, ◌∷◌, ◌++◌, ◌&&◌, ℕ, List, [], true, IfOk, OnOk, is_none};
 ghost use Rattle.mm_statement.specs.Language.Statement.{kind_of};
-ghost use Rattle.mm_frame.specs.{Language.{Scope.{active_numbers}, Sound.{AreSound, fault, sound_items}, Answering.{AreRows, is_told_proof}}, Code.KeptAsked.{KnowsAsked}};
-ghost use Rattle.mm_frame.specs.Code.{KeptEarlier.{IsFramed, KnowsEarlier}, KeptPairLists.{AreMade}, KeptSymbols.{AreSymbols}, KeptAssertions.{AreFrames, TellsPairs, is_told_framed}};
+ghost use Rattle.mm_frame.specs.{Language.{Scope.{active_numbers}, Sound.{AreSound, fault, sound_items}, Answering.{AreRows, is_told_proof}}, Code.KeptAnswers.{KnowsAnswers}};
+ghost use Rattle.mm_frame.specs.Code.{KeptEarlier.{IsFramed, KnowsEarlier}, KeptPairLists.{AreListsFor}, KeptSymbols.{AreSymbols}, KeptAssertions.{AreFrames, TellsPairs, is_told_framed}};
 ghost use Rattle.mm_frame.specs.Code.LastItems.{is_disjoint_item};
 ghost use Rattle.mm_statement.specs.Language.Item as meant;
 
@@ -60,10 +60,10 @@ fn keep_frame(
     own: &[NumberedSymbol],
     framed: bool,
 ) -> Result<(), AllocError>
-    ensures asked { OnOk result ((all : List (List ℕ)) (before : List meant.Said) → KnowsEarlier all before earlier.now → KnowsAsked all before room.old.asked
-        → KnowsAsked all before room.new.asked) }
+    ensures answers { OnOk result ((all : List (List ℕ)) (before : List meant.Said) → KnowsEarlier all before earlier.now
+        → KnowsAnswers all before room.old.answers → KnowsAnswers all before room.new.answers) }
     ensures frames { OnOk result ((all : List (List ℕ)) (said : List meant.Said) (item : meant.Said) → KnowsEarlier all (sound_items said) earlier.now
-        → KnowsAsked all (sound_items said) room.old.asked → disjoints.now ≡ active_numbers is_disjoint_item (sound_items said)
+        → KnowsAnswers all (sound_items said) room.old.answers → disjoints.now ≡ active_numbers is_disjoint_item (sound_items said)
         → framed ≡ is_told_framed (sound_items said) item → (framed ≡ true → IsFramed all (sound_items said) item own.now)
         → AreFrames all said frames.old → AreFrames all (said ++ item ∷ []) frames.new) }
 {
@@ -90,11 +90,11 @@ fn keep_pairs(
     expressions: &Expressions,
     proof: bool,
 ) -> Result<(), AllocError>
-    ensures made { OnOk result ((all : List (List ℕ)) (before : List meant.Said) → AreSound before → AreSymbols all before expressions.now
-        → disjoints.now ≡ active_numbers is_disjoint_item before → AreMade all before pair_lists.old → AreMade all before pair_lists.new) }
+    ensures by_count { OnOk result ((all : List (List ℕ)) (before : List meant.Said) → AreSound before → AreSymbols all before expressions.now
+        → disjoints.now ≡ active_numbers is_disjoint_item before → AreListsFor all before pair_lists.old → AreListsFor all before pair_lists.new) }
     ensures pairs { OnOk result ((all : List (List ℕ)) (said : List meant.Said) (item : meant.Said) → AreSymbols all (sound_items said) expressions.now
         → disjoints.now ≡ active_numbers is_disjoint_item (sound_items said)
-        → AreMade all (sound_items said) pair_lists.old → proof ≡ is_told_proof (sound_items said) item
+        → AreListsFor all (sound_items said) pair_lists.old → proof ≡ is_told_proof (sound_items said) item
         → AreRows (TellsPairs all pair_lists.old) said pairs.old → AreRows (TellsPairs all pair_lists.new) (said ++ item ∷ []) pairs.new) }
 {
     if !proof {

@@ -6,10 +6,10 @@ ghost use Rattle.mm_statement.specs.Language.Statement.{Says};
 ghost use Rattle.mm_machine.specs.Language.Names.{Begins};
 ghost use Rattle.mm_frame.specs.Language.{Base.{BaseView, IsOfFiles}, Older.{HasOlder}, Answering.{IsBaseBy, StandsLater}};
 
-use crate::again::read_all;
 use crate::base::Base;
 use crate::draft::Draft;
 use crate::names::Names;
+use crate::older::read_all;
 use mm_store::{Files, Item, StoreError};
 use std::alloc::{AllocError, Global};
 

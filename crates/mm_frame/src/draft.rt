@@ -4,7 +4,7 @@ ghost use Rattle.std.specs.{Prelude.{◌≡◌, ◌∷◌, ◌++◌, ℕ, List, 
 ghost use Rattle.mm_store.specs.Language.FileFacts.{CanBeRead};
 ghost use Rattle.mm_statement.specs.Language.{Item.{is_read}, Statement.{Says}};
 ghost use Rattle.mm_frame.specs.{Language.{Sound.{AreSound, IsSound, sound_items}, Framing.{expression}, Base.{BaseView, is_sound_at}}, Code.{KeptScope.{uses_numbers}, KeptSymbols.{AreSymbolsOf}}};
-ghost use Rattle.mm_frame.specs.Code.{KnownItem.{numbers_of}, KeptTables.{Knows}, KeptRows.{rows_of}, Numbers.{AreNameNumbers}, TakenOver.{IsNextOf}};
+ghost use Rattle.mm_frame.specs.Code.{KnownItem.{numbers_of}, KeptTables.{Knows}, KeptRows.{rows_of}, Numbers.{AreNameNumbers}, FromOlder.{IsNextOf}};
 ghost use Rattle.mm_machine.specs.Language.{Names.{AreDistinct, Begins}, NumberedSymbols.{symbols_of, IsNumbered}};
 ghost use Rattle.mm_statement.specs.Language.Item as meant;
 ghost use Rattle.mm_frame.specs.Language.Sound as meaning;
@@ -14,11 +14,11 @@ use crate::assertions::Assertions;
 use crate::base::Base;
 use crate::judge::{FrameFault, fault_of, is_sound_as_known};
 use crate::names::Names;
+use crate::older_assertions::{ActiveDisjoints, OlderItem};
 use crate::parts::BaseParts;
 use crate::passed::Passed;
 use crate::symbol::{put_symbols, put_variables};
 use crate::tables::Tables;
-use crate::take_over::{ActiveDisjoints, OldItem};
 use mm_machine::NumberedSymbol;
 use mm_statement::{PlainWords, Statement};
 use mm_store::{Files, Item};
@@ -143,7 +143,7 @@ impl Draft {
         self.assertions
             .keep(alloc, &earlier, disjoints, symbols, item)?;
         self.passed
-            .follow(alloc, statement, &self.numbers, symbols, fault)
+            .add_item(alloc, statement, &self.numbers, symbols, fault)
     }
 
     /// Adds one more statement, whose symbols have the numbers that are kept.
@@ -200,7 +200,7 @@ impl Draft {
     /// Takes one more statement as an older base has it, in which it is sound and has these symbols; their numbers are kept
     /// where they are needed. All items before it are those of the older base. Out of memory leaves the draft as good for
     /// nothing.
-    pub fn take_over(
+    pub fn add_from_older(
         &mut self,
         alloc: Global,
         statement: &Statement,
@@ -218,10 +218,10 @@ impl Draft {
             numbers: self.passed.active.disjoints(),
             expressions: &self.passed.expressions,
         };
-        let from = OldItem { base: old, number };
-        self.assertions.take_over(alloc, active, from)?;
+        let from = OlderItem { base: old, number };
+        self.assertions.add_from_older(alloc, active, from)?;
         self.passed
-            .follow(alloc, statement, &self.numbers, symbols, &None)
+            .add_item(alloc, statement, &self.numbers, symbols, &None)
     }
 
     /// What is kept when all items are read.

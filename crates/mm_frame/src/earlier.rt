@@ -1,9 +1,9 @@
 //! What is known before an assertion.
 
 use crate::blocks::Blocks;
+use crate::disjoint_rows::DisjointRows;
 use crate::essential::EssentialVariable;
 use crate::expressions::Expressions;
-use crate::paired::PairTable;
 use crate::tables::Tables;
 
 /// What is known of the sound items before an assertion.
@@ -12,7 +12,7 @@ pub struct Earlier<'a> {
     /// What they declare.
     pub tables: &'a Tables,
     /// The pairs of their `$d`.
-    pub pairs: &'a PairTable,
+    pub pairs: &'a DisjointRows,
     /// Their blocks.
     pub blocks: &'a Blocks,
     /// The numbers of the active `$e`, rising.

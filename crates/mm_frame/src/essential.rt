@@ -42,7 +42,8 @@ fn is_later(number: usize, essentials: &[usize]) -> bool
 /// How many of the variables are left if these `$e` are active.
 fn left_count(found: &[EssentialVariable], essentials: &[usize]) -> usize
     ensures within { result ≤ length found.now }
-    ensures gone { IsRising essentials.now → (v : EssentialVariable) → Contains (drop result found.now) v → (n : ℕ) → Contains essentials.now n → n < v.number }
+    ensures dropped { IsRising essentials.now → (v : EssentialVariable) → Contains (drop result found.now) v
+        → (n : ℕ) → Contains essentials.now n → n < v.number }
 {
     let mut count = found.len();
     while count > 0 && is_later(found[count - 1].number, essentials) {
@@ -136,7 +137,7 @@ impl EssentialVariables {
     }
 
     /// Goes on past one more item, which has this number: these are the active `$e` after it, and the symbols of all.
-    pub fn follow(
+    pub fn add_item(
         &mut self,
         essentials: &[usize],
         expressions: &Expressions,

@@ -38,7 +38,7 @@ pub fn add_expression(
     let place = guesses.place_of(symbols);
     let guess = guesses.guess(place);
     if same_symbols(expressions.at(guess), symbols) {
-        return expressions.add_again(guess);
+        return expressions.share(guess);
     }
     guesses.keep(place, expressions.count());
     expressions.add(symbols)

@@ -101,7 +101,7 @@ impl Frames {
     {
         match self.find_same(hypotheses, reach) {
             Some(number) => {
-                self.kept.add_again(number)?;
+                self.kept.share(number)?;
                 self.reaches.add(Some(reach))?;
                 Ok(true)
             }
@@ -115,7 +115,7 @@ impl Frames {
         ensures reaches { self.new.reaches ≡ self.old.reaches }
     {
         if let Some(number) = self.find_equal(&frame) {
-            return self.kept.add_again(number);
+            return self.kept.share(number);
         }
         let place = self.guesses.place_of_pairs(&frame.hypotheses, &frame.pairs);
         self.guesses.keep(place, self.kept.count());

@@ -99,7 +99,7 @@ impl<T: Copy> ItemLists<T> {
     }
 
     /// Adds one more item, which has the list of the one with this number. Out of memory changes nothing.
-    pub fn add_again(&mut self, number: usize) -> Result<(), AllocError>
+    pub fn share(&mut self, number: usize) -> Result<(), AllocError>
         ensures { OnOk result (self.new ≡ self.old ++ item_list self.old number ∷ []) }
     {
         let part = part_at(&self.parts, number);

@@ -2,15 +2,14 @@
 //! mean.
 #![tactic(auto)]
 
-mod active;
 mod active_items;
-mod again;
-mod asked;
+mod active_numbers;
 mod assertions;
 mod base;
 mod blocks;
 mod build;
 mod codes;
+mod disjoint_rows;
 mod draft;
 mod earlier;
 mod essential;
@@ -26,8 +25,10 @@ mod label_numbers;
 mod laws;
 mod mandatory;
 mod names;
+mod older;
+mod older_assertions;
+mod pair_answers;
 mod pair_lists;
-mod paired;
 mod partners;
 mod parts;
 mod passed;
@@ -40,7 +41,6 @@ mod sorted_lists;
 mod sparse;
 mod symbol;
 mod tables;
-mod take_over;
 
 pub use base::{Base, Resolved};
 pub use examples::frames_are_read_so;

@@ -3,18 +3,18 @@
 ghost use Rattle.std.specs.{Prelude.{◌≡◌, ◌++◌, ◌∷◌, ◌<◌, ℕ, List, [], All, IsTrue, OnOk, IfOk, IfSome, ◌+◌, Some, length, map, filter, drop, slice_get}, List.{flat_map}};
 ghost use Rattle.mm_machine.specs.Language.{Frame.{Symbol as Meaning}, NumberedSymbols.{symbol_of, symbols_of, IsNumbered, ArePairsRead}};
 ghost use Rattle.mm_frame.specs.{Language.{Framing.{pairs_of, active_pairs, frame, mandatory_numbers}, Answering.{are_paired, pairs_in_order}}, Code.KeptEarlier.{IsFramed, KnowsEarlier}};
-ghost use Rattle.mm_frame.specs.Code.{LastItems.{IsRising}, KeptSymbols.{float_number, float_numbers}, KeptVariables.{known_float}, PairOrder.{float_variable, float_variables}, KeptPairTable.{ReadsPairs}};
-ghost use Rattle.mm_frame.specs.Code.{KeptPlaces.{ArePlaces}, KeptAsked.{KnowsAsked, AsksOn}};
+ghost use Rattle.mm_frame.specs.Code.{LastItems.{IsRising}, KeptSymbols.{float_number, float_numbers}, KeptVariables.{known_float}, PairOrder.{float_variable, float_variables}};
+ghost use Rattle.mm_frame.specs.Code.{KeptDisjointRows.{ReadsPairs}, KeptPlaces.{ArePlaces}, KeptAnswers.{KnowsAnswers, KeepsAnswers}};
 ghost use Rattle.mm_statement.specs.Language.Item as meant;
 ghost use Rattle.mm_frame.specs.Code.PairOrder as paired;
 
-use crate::asked::AskedPairs;
 use crate::blocks::Blocks;
+use crate::disjoint_rows::DisjointRows;
 use crate::earlier::Earlier;
 use crate::essential::EssentialVariable;
 use crate::expressions::Expressions;
-use crate::paired::PairTable;
-use crate::partners::{PlacedVariables, add_partners, are_short, places_if_many};
+use crate::pair_answers::PairAnswers;
+use crate::partners::{PlacedVariables, add_partners, fewer_variables_than, places_if_many};
 use crate::rising::is_among;
 use crate::tables::Tables;
 use mm_machine::NumberedSymbol;
@@ -24,7 +24,7 @@ use std::alloc::{AllocError, Global};
 #[derive(Drop)]
 pub struct FrameRoom {
     /// Which pairs were looked up, so that none is searched for twice.
-    pub asked: AskedPairs,
+    pub answers: PairAnswers,
     /// The numbers of the hypotheses of the last frame.
     pub numbers: Vec<usize>,
     /// The variables of its `$f`.
@@ -36,10 +36,10 @@ pub struct FrameRoom {
 impl FrameRoom {
     /// No frame is made yet. It takes no memory.
     pub fn new(alloc: Global) -> FrameRoom
-        ensures { (all : List (List ℕ)) → KnowsAsked all [] result.asked }
+        ensures { (all : List (List ℕ)) → KnowsAnswers all [] result.answers }
     {
         FrameRoom {
-            asked: AskedPairs::new(alloc),
+            answers: PairAnswers::new(alloc),
             numbers: Vec::new(alloc),
             variables: Vec::new(alloc),
             pairs: Vec::new(alloc),
@@ -182,19 +182,19 @@ fn put_typed(
 
 /// Adds a pair if an active `$d` has it.
 fn add_if_active(
-    table: &PairTable,
-    asked: &mut AskedPairs,
+    table: &DisjointRows,
+    answers: &mut PairAnswers,
     blocks: &Blocks,
     first: NumberedSymbol,
     second: NumberedSymbol,
     pairs: &mut Vec<(NumberedSymbol, NumberedSymbol)>,
 ) -> Result<(), AllocError>
     ensures pairs { OnOk result ((all : List (List ℕ)) (before : List meant.Said) (said : List (Meaning × Meaning)) → ReadsPairs all before table.now blocks.now
-        → KnowsAsked all before asked.old → IsNumbered all first → IsNumbered all second → ArePairsRead all said pairs.old.items
+        → KnowsAnswers all before answers.old → IsNumbered all first → IsNumbered all second → ArePairsRead all said pairs.old.items
         → ArePairsRead all (said ++ filter (are_paired (active_pairs before)) ((symbol_of all first, symbol_of all second) ∷ [])) pairs.new.items) }
-    ensures asked { OnOk result (AsksOn table.now blocks.now asked.old asked.new) }
+    ensures answers { OnOk result (KeepsAnswers table.now blocks.now answers.old answers.new) }
 {
-    let active = table.is_active_pair(asked, blocks, first.name, second.name)?;
+    let active = table.is_active_pair(answers, blocks, first.name, second.name)?;
     if active {
         pairs.push((first, second))?;
     }
@@ -203,24 +203,24 @@ fn add_if_active(
 
 /// Adds those of one variable with each of some others.
 fn add_active_with(
-    table: &PairTable,
-    asked: &mut AskedPairs,
+    table: &DisjointRows,
+    answers: &mut PairAnswers,
     blocks: &Blocks,
     first: NumberedSymbol,
     later: &[NumberedSymbol],
     pairs: &mut Vec<(NumberedSymbol, NumberedSymbol)>,
 ) -> Result<(), AllocError>
     ensures pairs { OnOk result ((all : List (List ℕ)) (before : List meant.Said) (said : List (Meaning × Meaning)) → ReadsPairs all before table.now blocks.now
-        → KnowsAsked all before asked.old → IsNumbered all first → All (IsNumbered all) later.now → ArePairsRead all said pairs.old.items
+        → KnowsAnswers all before answers.old → IsNumbered all first → All (IsNumbered all) later.now → ArePairsRead all said pairs.old.items
         → ArePairsRead all (said ++ filter (are_paired (active_pairs before)) (map (λ y. (symbol_of all first, y)) (symbols_of all later.now)))
         pairs.new.items) }
-    ensures asked { OnOk result (AsksOn table.now blocks.now asked.old asked.new) }
+    ensures answers { OnOk result (KeepsAnswers table.now blocks.now answers.old answers.new) }
 {
     if !table.has(first.name) {
         return Ok(());
     }
     for second in later {
-        add_if_active(table, asked, blocks, first, *second, pairs)?;
+        add_if_active(table, answers, blocks, first, *second, pairs)?;
     }
     Ok(())
 }
@@ -230,51 +230,51 @@ fn add_active_with(
 fn add_pairs_with_later(
     alloc: Global,
     earlier: &Earlier,
-    asked: &mut AskedPairs,
+    answers: &mut PairAnswers,
     placed: &PlacedVariables,
     n: usize,
     pairs: &mut Vec<(NumberedSymbol, NumberedSymbol)>,
 ) -> Result<(), AllocError>
     requires { n < length placed.now.variables.now }
     ensures pairs { OnOk result ((all : List (List ℕ)) (before : List meant.Said) (said : List (Meaning × Meaning)) (first : NumberedSymbol)
-        → KnowsEarlier all before earlier.now → KnowsAsked all before asked.old → IfSome placed.now.places (ArePlaces placed.now.variables.now)
+        → KnowsEarlier all before earlier.now → KnowsAnswers all before answers.old → IfSome placed.now.places (ArePlaces placed.now.variables.now)
         → All (IsNumbered all) placed.now.variables.now → ArePairsRead all said pairs.old.items → slice_get placed.now.variables.now n ≡ Some first
         → ArePairsRead all (said ++ filter (are_paired (active_pairs before))
         (map (λ y. (symbol_of all first, y)) (symbols_of all (drop (n + 1) placed.now.variables.now)))) pairs.new.items) }
-    ensures asked { OnOk result ((all : List (List ℕ)) (before : List meant.Said) → KnowsEarlier all before earlier.now → KnowsAsked all before asked.old
-        → KnowsAsked all before asked.new) }
+    ensures answers { OnOk result ((all : List (List ℕ)) (before : List meant.Said) → KnowsEarlier all before earlier.now → KnowsAnswers all before answers.old
+        → KnowsAnswers all before answers.new) }
 {
     let (table, variables) = (earlier.pairs, placed.variables);
     let first = variables[n];
     let later = &variables[n + 1..];
     if let Some(places) = &placed.places {
-        if are_short(earlier.expressions, table.row(first.name), later.len()) {
+        if fewer_variables_than(earlier.expressions, table.row(first.name), later.len()) {
             return add_partners(alloc, earlier, places, variables, n, pairs);
         }
     }
-    add_active_with(table, asked, earlier.blocks, first, later, pairs)
+    add_active_with(table, answers, earlier.blocks, first, later, pairs)
 }
 
 /// The pairs of each variable with each later one that an active `$d` has. They are collected in `pairs`, and the answer is a
 /// copy.
-fn active_among(
+fn active_pairs_among(
     alloc: Global,
     earlier: &Earlier,
-    asked: &mut AskedPairs,
+    answers: &mut PairAnswers,
     variables: &[NumberedSymbol],
     pairs: &mut Vec<(NumberedSymbol, NumberedSymbol)>,
 ) -> Result<Vec<(NumberedSymbol, NumberedSymbol)>, AllocError>
     ensures pairs { IfOk result (λ pairs. (all : List (List ℕ)) (before : List meant.Said) → KnowsEarlier all before earlier.now
-        → KnowsAsked all before asked.old → All (IsNumbered all) variables.now
+        → KnowsAnswers all before answers.old → All (IsNumbered all) variables.now
         → ArePairsRead all (filter (are_paired (active_pairs before)) (pairs_of (symbols_of all variables.now))) pairs.items) }
-    ensures asked { OnOk result ((all : List (List ℕ)) (before : List meant.Said) → KnowsEarlier all before earlier.now → KnowsAsked all before asked.old
-        → KnowsAsked all before asked.new) }
+    ensures answers { OnOk result ((all : List (List ℕ)) (before : List meant.Said) → KnowsEarlier all before earlier.now → KnowsAnswers all before answers.old
+        → KnowsAnswers all before answers.new) }
 {
     let places = places_if_many(alloc, earlier.pairs, variables)?;
     let placed = PlacedVariables { variables, places };
     pairs.clear();
     for n in 0..variables.len() {
-        add_pairs_with_later(alloc, earlier, asked, &placed, n, pairs)?;
+        add_pairs_with_later(alloc, earlier, answers, &placed, n, pairs)?;
     }
     Vec::from_slice(alloc, pairs)
 }
@@ -286,18 +286,18 @@ pub fn mandatory_pairs(
     earlier: &Earlier,
     room: &mut FrameRoom,
 ) -> Result<Vec<(NumberedSymbol, NumberedSymbol)>, AllocError>
-    ensures asked { OnOk result ((all : List (List ℕ)) (before : List meant.Said) → KnowsEarlier all before earlier.now → KnowsAsked all before room.old.asked
-        → KnowsAsked all before room.new.asked) }
+    ensures answers { OnOk result ((all : List (List ℕ)) (before : List meant.Said) → KnowsEarlier all before earlier.now
+        → KnowsAnswers all before room.old.answers → KnowsAnswers all before room.new.answers) }
     ensures pairs { IfOk result (λ pairs. (all : List (List ℕ)) (before : List meant.Said) (item : meant.Said) → KnowsEarlier all before earlier.now
-        → KnowsAsked all before room.old.asked → room.old.numbers.items ≡ mandatory_numbers before item
+        → KnowsAnswers all before room.old.answers → room.old.numbers.items ≡ mandatory_numbers before item
         → ArePairsRead all (pairs_in_order (frame before item)) pairs.items) }
 {
     let FrameRoom {
-        asked,
+        answers,
         numbers,
         variables,
         pairs,
     } = room;
     put_typed(earlier.essentials, earlier.expressions, numbers, variables)?;
-    active_among(alloc, earlier, asked, variables, pairs)
+    active_pairs_among(alloc, earlier, answers, variables, pairs)
 }

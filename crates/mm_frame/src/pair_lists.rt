@@ -25,7 +25,7 @@ use std::collections::HashMap;
 pub struct PairLists {
     pub lists: SortedLists,
     /// The number of the list, by the count of items up to the last active `$d`: 0 if no `$d` is active.
-    made: HashMap<usize, usize>,
+    by_count: HashMap<usize, usize>,
     /// The count of items up to the last `$d` of the last list that was made.
     reach: usize,
 }
@@ -161,30 +161,30 @@ pub fn count_to_last(disjoints: &[usize], expressions: &Expressions) -> usize
 }
 
 impl PairLists {
-    ghost use Rattle.mm_frame.specs.Code.KeptPairLists.{AreMade, IsList, KeepsLists, list_kept, list_made};
+    ghost use Rattle.mm_frame.specs.Code.KeptPairLists.{AreListsFor, IsList, KeepsLists, list_kept, listed_for};
 
     /// No lists, with guesses for those of this many items.
     pub fn with_room(alloc: Global, count: usize) -> Result<Self, AllocError>
-        ensures { IfOk result (λ lists. (all : List (List ℕ)) → AreMade all [] lists) }
+        ensures { IfOk result (λ lists. (all : List (List ℕ)) → AreListsFor all [] lists) }
     {
         let lists = SortedLists::with_room(alloc, count)?;
         Ok(PairLists {
             lists,
-            made: HashMap::new(alloc),
+            by_count: HashMap::new(alloc),
             reach: 0,
         })
     }
 
     /// The number of the list that is made for this many items, if one is made.
-    fn made_for(&self, count: usize) -> Option<usize>
-        ensures { result ≡ list_made self.now count }
+    fn list_for(&self, count: usize) -> Option<usize>
+        ensures { result ≡ listed_for self.now count }
     {
-        self.made.get(&count).copied()
+        self.by_count.get(&count).copied()
     }
 
     /// Whether a list is made for the items up to the one with this number.
-    fn is_made(&self, number: usize, expressions: &Expressions) -> bool {
-        self.made_for(count_to(number, expressions.count()))
+    fn has_list(&self, number: usize, expressions: &Expressions) -> bool {
+        self.list_for(count_to(number, expressions.count()))
             .is_some()
     }
 
@@ -196,7 +196,7 @@ impl PairLists {
         let alloc = lists.allocator();
         PairLists {
             lists: lists.finished(),
-            made: HashMap::new(alloc),
+            by_count: HashMap::new(alloc),
             reach: 0,
         }
     }
@@ -211,17 +211,17 @@ impl PairLists {
         expressions: &Expressions,
     ) -> Result<usize, AllocError>
         ensures pairs { IfOk result (λ k. (all : List (List ℕ)) (before : List meant.Said) → AreSound before → AreSymbols all before expressions.now
-            → AreFrontNumbers before first.now count → AreMade all before self.old → IsList all self.new k (active_pairs (take count before))) }
-        ensures made { OnOk result ((all : List (List ℕ)) (before : List meant.Said) → AreSound before → AreSymbols all before expressions.now
-            → AreFrontNumbers before first.now count → AreMade all before self.old → AreMade all before self.new) }
+            → AreFrontNumbers before first.now count → AreListsFor all before self.old → IsList all self.new k (active_pairs (take count before))) }
+        ensures by_count { OnOk result ((all : List (List ℕ)) (before : List meant.Said) → AreSound before → AreSymbols all before expressions.now
+            → AreFrontNumbers before first.now count → AreListsFor all before self.old → AreListsFor all before self.new) }
         ensures kept { OnOk result (KeepsLists self.old self.new) }
     {
-        if let Some(k) = self.made_for(count) {
+        if let Some(k) = self.list_for(count) {
             return Ok(k);
         }
         let pairs = pairs_at(alloc, first, expressions)?;
         let k = self.lists.keep(in_order(pairs))?;
-        self.made.insert(count, k)?;
+        self.by_count.insert(count, k)?;
         Ok(k)
     }
 
@@ -236,7 +236,7 @@ impl PairLists {
         ensures pairs { IfOk result (λ k. (all : List (List ℕ)) (said added : List (Meaning × Meaning)) → IsList all self.old base said
             → AreSamePairsRead all added (flat_map (λ n. pairs_among (item_list expressions.now n)) own.now) → IsList all self.new k (said ++ added)) }
         ensures kept { OnOk result (KeepsLists self.old self.new) }
-        ensures made { OnOk result (self.new.made ≡ self.old.made) }
+        ensures by_count { OnOk result (self.new.by_count ≡ self.old.by_count) }
     {
         let pairs = pairs_at(alloc, own, expressions)?;
         if has_all(self.list(base), &pairs) {
@@ -247,11 +247,11 @@ impl PairLists {
     }
 
     /// How many of the first active `$d` have a list that is made: the most that have one, or none of them.
-    fn made_count(&self, disjoints: &[usize], expressions: &Expressions) -> usize
+    fn listed_count(&self, disjoints: &[usize], expressions: &Expressions) -> usize
         ensures { result ≤ length disjoints.now }
     {
         let mut count = disjoints.len();
-        while count > 0 && !self.is_made(disjoints[count - 1], expressions) {
+        while count > 0 && !self.has_list(disjoints[count - 1], expressions) {
             count -= 1;
         }
         count
@@ -269,21 +269,21 @@ impl PairLists {
     ) -> Result<usize, AllocError>
         ensures pairs { IfOk result (λ k. (all : List (List ℕ)) (before : List meant.Said) (rest : List ℕ) → AreSound before
             → AreSymbols all before expressions.now
-            → outer.now ++ rest ≡ active_numbers is_disjoint_item before → AreFrontNumbers before outer.now count → AreMade all before self.old
+            → outer.now ++ rest ≡ active_numbers is_disjoint_item before → AreFrontNumbers before outer.now count → AreListsFor all before self.old
             → IsList all self.new k (active_pairs (take count before))) }
-        ensures made { OnOk result ((all : List (List ℕ)) (before : List meant.Said) (rest : List ℕ) → AreSound before → AreSymbols all before expressions.now
-            → outer.now ++ rest ≡ active_numbers is_disjoint_item before → AreFrontNumbers before outer.now count → AreMade all before self.old
-            → AreMade all before self.new) }
+        ensures by_count { OnOk result ((all : List (List ℕ)) (before : List meant.Said) (rest : List ℕ) → AreSound before
+            → AreSymbols all before expressions.now → outer.now ++ rest ≡ active_numbers is_disjoint_item before
+            → AreFrontNumbers before outer.now count → AreListsFor all before self.old → AreListsFor all before self.new) }
         ensures kept { OnOk result (KeepsLists self.old self.new) }
     {
-        if let Some(k) = self.made_for(count) {
+        if let Some(k) = self.list_for(count) {
             return Ok(k);
         }
-        let done = self.made_count(outer, expressions);
+        let done = self.listed_count(outer, expressions);
         let front = count_to_last(&outer[..done], expressions);
         let base = self.first_list(alloc, &outer[..done], front, expressions)?;
         let k = self.extended(alloc, base, &outer[done..], expressions)?;
-        self.made.insert(count, k)?;
+        self.by_count.insert(count, k)?;
         Ok(k)
     }
 
@@ -297,46 +297,46 @@ impl PairLists {
         expressions: &Expressions,
     ) -> Result<usize, AllocError>
         ensures pairs { IfOk result (λ k. (all : List (List ℕ)) (before : List meant.Said) → AreSound before → AreSymbols all before expressions.now
-            → disjoints.now ≡ active_numbers is_disjoint_item before → AreMade all before self.old → IsList all self.new k (active_pairs before)) }
-        ensures made { OnOk result ((all : List (List ℕ)) (before : List meant.Said) → AreSound before → AreSymbols all before expressions.now
-            → disjoints.now ≡ active_numbers is_disjoint_item before → AreMade all before self.old → AreMade all before self.new) }
+            → disjoints.now ≡ active_numbers is_disjoint_item before → AreListsFor all before self.old → IsList all self.new k (active_pairs before)) }
+        ensures by_count { OnOk result ((all : List (List ℕ)) (before : List meant.Said) → AreSound before → AreSymbols all before expressions.now
+            → disjoints.now ≡ active_numbers is_disjoint_item before → AreListsFor all before self.old → AreListsFor all before self.new) }
         ensures kept { OnOk result (KeepsLists self.old self.new) }
     {
         let count = count_to_last(disjoints, expressions);
-        if let Some(k) = self.made_for(count) {
+        if let Some(k) = self.list_for(count) {
             return Ok(k);
         }
         let outer = outer_count(disjoints, self.reach);
         let front = count_to_last(&disjoints[..outer], expressions);
         let base = self.outer_list(alloc, &disjoints[..outer], front, expressions)?;
         let k = self.extended(alloc, base, &disjoints[outer..], expressions)?;
-        self.made.insert(count, k)?;
+        self.by_count.insert(count, k)?;
         self.reach = count;
         Ok(k)
     }
 
     /// The number of the list that is made for the active `$d` with these numbers, if one is made.
-    pub fn made_list(&self, disjoints: &[usize], expressions: &Expressions) -> Option<usize>
+    pub fn find_list(&self, disjoints: &[usize], expressions: &Expressions) -> Option<usize>
         ensures { IfSome result (λ k. (all : List (List ℕ)) (before : List meant.Said) → AreSound before → AreSymbols all before expressions.now
-            → disjoints.now ≡ active_numbers is_disjoint_item before → AreMade all before self.now → IsList all self.now k (active_pairs before)) }
+            → disjoints.now ≡ active_numbers is_disjoint_item before → AreListsFor all before self.now → IsList all self.now k (active_pairs before)) }
     {
-        self.made_for(count_to_last(disjoints, expressions))
+        self.list_for(count_to_last(disjoints, expressions))
     }
 
     /// Takes this list as the one that is made for the active `$d` with these numbers.
-    pub fn keep_made(
+    pub fn keep_list(
         &mut self,
         disjoints: &[usize],
         expressions: &Expressions,
         k: usize,
     ) -> Result<(), AllocError>
-        ensures made { OnOk result ((all : List (List ℕ)) (before : List meant.Said) → AreSound before → AreSymbols all before expressions.now
-            → disjoints.now ≡ active_numbers is_disjoint_item before → IsList all self.old k (active_pairs before) → AreMade all before self.old
-            → AreMade all before self.new) }
+        ensures by_count { OnOk result ((all : List (List ℕ)) (before : List meant.Said) → AreSound before → AreSymbols all before expressions.now
+            → disjoints.now ≡ active_numbers is_disjoint_item before → IsList all self.old k (active_pairs before) → AreListsFor all before self.old
+            → AreListsFor all before self.new) }
         ensures lists { OnOk result (self.new.lists ≡ self.old.lists) }
     {
         let count = count_to_last(disjoints, expressions);
-        self.made.insert(count, k)?;
+        self.by_count.insert(count, k)?;
         self.reach = count;
         Ok(())
     }

@@ -7,9 +7,9 @@ ghost use Rattle.mm_frame.specs.Code.LastItems.{IsRising};
 ghost use Rattle.mm_statement.specs.Language.Item as meant;
 
 use crate::blocks::Blocks;
+use crate::disjoint_rows::DisjointRows;
 use crate::earlier::Earlier;
 use crate::expressions::Expressions;
-use crate::paired::PairTable;
 use crate::places::Places;
 use mm_machine::NumberedSymbol;
 use std::alloc::{AllocError, Global};
@@ -29,7 +29,7 @@ pub struct PlacedVariables<'a> {
 /// The places of the variables of a frame, if they are worth it: more than a few of them are in some `$d`.
 pub fn places_if_many(
     alloc: Global,
-    table: &PairTable,
+    table: &DisjointRows,
     variables: &[NumberedSymbol],
 ) -> Result<Option<Places>, AllocError>
     ensures { IfOk result (λ places. IfSome places (ArePlaces variables.now)) }
@@ -48,7 +48,7 @@ pub fn places_if_many(
 }
 
 /// Whether these `$d` have fewer variables than this, each counted in each.
-pub fn are_short(expressions: &Expressions, row: &[usize], bound: usize) -> bool {
+pub fn fewer_variables_than(expressions: &Expressions, row: &[usize], bound: usize) -> bool {
     let mut left = bound;
     for number in row {
         let count = expressions.at(*number).len();

@@ -2,7 +2,7 @@
 
 ghost use Rattle.std.specs.{Prelude.{◌≡◌, ◌∷◌, ◌++◌, ℕ, List, [], true, is_none, IfOk, OnOk, Ok, length}, Option.{option_map}};
 ghost use Rattle.mm_statement.specs.Language.Statement.{kind_of};
-ghost use Rattle.mm_frame.specs.{Language.{Sound.{AreSound, IsSound, sound_items}, Base.{fault_by}}, Code.{BlockMarks.{block_marks}, KeptEarlier.{KnowsEarlier}, KeptPairTable.{KnowsPairs}}};
+ghost use Rattle.mm_frame.specs.{Language.{Sound.{AreSound, IsSound, sound_items}, Base.{fault_by}}, Code.{BlockMarks.{block_marks}, KeptEarlier.{KnowsEarlier}, KeptDisjointRows.{KnowsPairs}}};
 ghost use Rattle.mm_frame.specs.Code.{KeptRows.{rows_of}, KeptScope.{taken, uses_numbers}, KeptSymbols.{AreSymbolsOf}, Numbers.{AreNameNumbers}};
 ghost use Rattle.mm_machine.specs.Language.Names.{AreDistinct};
 ghost use Rattle.mm_statement.specs.Language.Item as meant;
@@ -11,12 +11,12 @@ ghost use Rattle.mm_frame.specs.Language.Sound as meaning;
 use crate::FrameNumber;
 use crate::active_items::{ActiveItems, TakenItem, is_disjoint};
 use crate::blocks::Blocks;
+use crate::disjoint_rows::DisjointRows;
 use crate::earlier::Earlier;
 use crate::expressions::{Expressions, add_expression, room_for_expressions};
 use crate::guesses::ListGuesses;
 use crate::item_rows::Rows;
 use crate::judge::FrameFault;
-use crate::paired::PairTable;
 use crate::scope::Scope;
 use mm_machine::NumberedSymbol;
 use mm_statement::Statement;
@@ -36,7 +36,7 @@ pub struct Passed {
     guesses: ListGuesses,
     pub active: ActiveItems,
     /// The pairs of the active `$d`.
-    pair_table: PairTable,
+    disjoint_rows: DisjointRows,
 }
 
 /// The fault that is reported of an item of this kind, if its statement has this fault. Most often there is none, so nothing of
@@ -60,9 +60,9 @@ fn told_fault(kind: ItemKind, fault: &Option<FrameFault>) -> Option<FrameFault>
 }
 
 /// Goes on with the pairs past one more item, whose symbols have these numbers.
-fn follow_pairs(
+fn add_disjoint(
     alloc: Global,
-    pairs: &mut PairTable,
+    pairs: &mut DisjointRows,
     blocks: &Blocks,
     numbers: &[usize],
     item: TakenItem,
@@ -100,7 +100,7 @@ impl Passed {
             expressions,
             guesses,
             active: ActiveItems::new(alloc),
-            pair_table: PairTable::new(alloc),
+            disjoint_rows: DisjointRows::new(alloc),
         })
     }
 
@@ -130,7 +130,7 @@ impl Passed {
     {
         Earlier {
             tables: self.scope.tables(),
-            pairs: &self.pair_table,
+            pairs: &self.disjoint_rows,
             blocks: self.scope.blocks(),
             essentials: self.active.essentials(),
             variables: self.active.variables(),
@@ -140,7 +140,7 @@ impl Passed {
 
     /// Goes on past one more statement, which has these symbols, and this fault or none. Where they are needed, the numbers are
     /// those of its symbols.
-    pub fn follow(
+    pub fn add_item(
         &mut self,
         alloc: Global,
         statement: &Statement,
@@ -156,13 +156,13 @@ impl Passed {
     {
         let item = self.next(statement, fault);
         let blocks = self.scope.blocks();
-        follow_pairs(alloc, &mut self.pair_table, blocks, numbers, item)?;
+        add_disjoint(alloc, &mut self.disjoint_rows, blocks, numbers, item)?;
         add_expression(&mut self.expressions, &mut self.guesses, symbols)?;
         self.rows
             .add(statement.label(), told_fault(item.kind, fault))?;
         self.scope.next(alloc, statement, numbers, item.sound)?;
         let blocks = self.scope.blocks();
-        self.active.follow(blocks, &self.expressions, item)?;
+        self.active.add_item(blocks, &self.expressions, item)?;
         Ok(())
     }
 }

@@ -81,7 +81,7 @@ impl<T: Drop> Shared<T> {
     }
 
     /// Adds one more item, which has what the one with this number has. Out of memory changes nothing.
-    pub fn add_again(&mut self, number: usize) -> Result<(), AllocError>
+    pub fn share(&mut self, number: usize) -> Result<(), AllocError>
         ensures { OnOk result (shared_values self.new ≡ shared_values self.old ++ value_kept (shared_values self.old) number ∷ []) }
     {
         let place = self.places.at(number);

@@ -150,7 +150,7 @@ impl SortedLists {
     }
 
     /// The number of the list that was made of these two, if one is found.
-    fn made_of(&self, first: usize, second: usize) -> Option<usize>
+    fn join_of(&self, first: usize, second: usize) -> Option<usize>
         ensures { IfSome result (λ k. IsJoined self.now first second k) }
     {
         let place = self.join_guesses.place_of_numbers(&[first], second);
@@ -212,7 +212,7 @@ impl SortedLists {
         if self.at(first).is_empty() {
             return Ok(second);
         }
-        if let Some(k) = self.made_of(first, second) {
+        if let Some(k) = self.join_of(first, second) {
             return Ok(k);
         }
         self.make(alloc, first, second)

@@ -9,8 +9,8 @@ ghost use Rattle.mm_keep.specs.declared.{answers.KeepError.TheVariants.{NoAssert
 ghost use Rattle.mm_proof.specs.mm_store.declared.item.Item as store;
 ghost use Rattle.mm_proof.specs.mm_statement.Language.Statement as spoken;
 
+use crate::checks::Checks;
 use crate::finding::Finding;
-use crate::kept::Checks;
 use crate::seen::{place_of_spot, seen_at};
 use crate::session::Session;
 use crate::tally::Tally;

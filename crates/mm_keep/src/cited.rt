@@ -5,7 +5,7 @@ ghost use Rattle.mm_proof.specs.mm_frame.Language.{Base.{BaseView}, Resolving.{I
 ghost use Rattle.mm_keep.specs.Language.{Citations.{CitesItem}, Sessions.{IsAssertion}};
 ghost use Rattle.mm_keep.specs.Code.Cited.{AreRising, HasChecks, HasLabelAmong, HasPlaceFor, HasPlaces, IsAmongCited, MarksMore, OfChecks, passed_words};
 
-use crate::kept::{Checks, KeptCheck};
+use crate::checks::{Checks, KeptCheck};
 use mm_proof::{Base, Files, PlainWords, cites_rise, cites_tell, has_own_labels, words_of_proof};
 
 /// The word after this many others, if there is one. It is passed, and so are those before it.

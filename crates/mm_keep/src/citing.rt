@@ -7,8 +7,8 @@ ghost use Rattle.mm_keep.specs.{Language.{Sessions.{AreAxiomsOf, AreCitesOf, Are
 ghost use Rattle.mm_keep.specs.Code.Cited.{HasChecks, IsMarked, MarksBehind, OfChecks};
 
 use crate::answers::KeepError;
+use crate::checks::Checks;
 use crate::cited::{cites_label, mark_cites};
-use crate::kept::Checks;
 use crate::session::Session;
 use mm_proof::{Base, Files, ItemKind, files_have_one_database, items_are_located};
 use std::alloc::{AllocError, Global};

@@ -5,7 +5,7 @@ ghost use Rattle.mm_proof.specs.{mm_store.{declared.error.StoreError.TheVariants
 ghost use Rattle.mm_proof.specs.{mm_frame.Language.Older.{HasOlder, IsOlder}, mm_machine.Language.Names.{AreDistinct, Begins}, mm_verdict.Language.ReadIn.{IsReadIn}};
 ghost use Rattle.mm_keep.specs.Code.{Next.{KeepsOrRuns, HasTop, IsBuilt, IsFirst, IsNextBase, RunsAll}, Planned.{AreBothRead}};
 
-use crate::kept::Checks;
+use crate::checks::Checks;
 use crate::planning::{planned, run_rest};
 use mm_frame::Sparse;
 use mm_proof::{Base, Files, Names, StoreError, Work};

@@ -3,11 +3,11 @@
 #![tactic(auto)]
 
 mod answers;
+mod checks;
 mod cited;
 mod citing;
 mod finding;
 mod keeping;
-mod kept;
 mod laws;
 mod planning;
 mod seen;

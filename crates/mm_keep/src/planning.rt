@@ -5,7 +5,7 @@ ghost use Rattle.mm_proof.specs.{mm_frame.Language.{Base.{BaseView}, Answering.{
 ghost use Rattle.mm_keep.specs.Code.KeptSession.{AreChecked, IsKeptAt};
 ghost use Rattle.mm_keep.specs.Code.Planned.{AddsOne, AreBothRead, AreMarksBy, ArePlanned, AreRecorded, AreRunBy, CanBeCarried, CanCarry, HasItemBothRead, HasItemRead, IsPlanned, IsRunBy, RecordsIf};
 
-use crate::kept::{Checks, KeptCheck};
+use crate::checks::{Checks, KeptCheck};
 use mm_frame::Sparse;
 use mm_proof::{
     Base, Checker, Files, Marks, Names, Work, labels_are_own, same_view_by, same_view_same_cites,

@@ -8,8 +8,8 @@ ghost use Rattle.mm_keep.specs.{Code.{Changing.{CanTake, HasKept, HasRun, HasTak
 ghost use Rattle.mm_keep.specs.Language.Sessions.{IsBegun, IsChanged, IsCount, IsLabelOfItem};
 ghost use Rattle.mm_proof.specs.mm_store.declared.batch.BatchError.TheVariants as batch;
 
+use crate::checks::Checks;
 use crate::keeping::{Next, Ran, first_of, next_of};
-use crate::kept::Checks;
 use crate::planning::carry;
 use crate::unbegun::Unbegun;
 use mm_proof::{

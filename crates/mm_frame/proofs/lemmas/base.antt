@@ -9,4 +9,4 @@ pub mod ResolvingLemmas
 pub mod RowLemmas
 pub mod SaidLabels
 pub mod StandingItems
-pub mod TakenOverLemmas
+pub mod FromOlderLemmas

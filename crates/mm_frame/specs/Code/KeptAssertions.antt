@@ -11,8 +11,8 @@ use Rattle.mm_frame.specs.Language.Framing.{frame, active_pairs}
 use Rattle.mm_frame.specs.Language.Base.{told_fault}
 use Rattle.mm_machine.specs.Language.NumberedSymbols.{ArePairsRead}
 use Rattle.mm_frame.specs.Language.Answering.{AreRows, told_numbers, is_told_proof, pairs_in_order}
-use Rattle.mm_frame.specs.Code.{KeptAsked.{KnowsAsked}, KeptFrames.{frames_kept}}
-use Rattle.mm_frame.specs.Code.KeptPairLists.{AreFrontNumbers, IsList, AreMade}
+use Rattle.mm_frame.specs.Code.{KeptAnswers.{KnowsAnswers}, KeptFrames.{frames_kept}}
+use Rattle.mm_frame.specs.Code.KeptPairLists.{AreFrontNumbers, IsList, AreListsFor}
 use Rattle.mm_frame.specs.Code.LastItems.{is_disjoint_item}
 use Rattle.mm_frame.specs.Language.Scope.{active_numbers}
 
@@ -42,6 +42,6 @@ pub record TellsPairs (all : List (List ℕ)) (lists : PairLists) (before : List
 -- the assertions are those of items that say this, by the numbers of names in the list of all
 pub record AreAssertions (all : List (List ℕ)) (said : List Said) (assertions : Assertions) : Type 0 where
   pub frames : AreFrames all said assertions.frames
-  pub made : AreMade all (sound_items said) assertions.pair_lists
+  pub by_count : AreListsFor all (sound_items said) assertions.pair_lists
   pub pair_numbers : AreRows (TellsPairs all assertions.pair_lists) said assertions.pair_numbers
-  pub room : KnowsAsked all (sound_items said) assertions.room.asked
+  pub room : KnowsAnswers all (sound_items said) assertions.room.answers

@@ -11,7 +11,7 @@ use Rattle.mm_frame.specs.Code.KeptAssertions.{TellsFrame, TellsPairs, AreAssert
 use Rattle.mm_frame.specs.Code.KeptActiveItems.{AreActiveKept}
 use Rattle.mm_frame.specs.Code.KeptRows.{AreRowsKept, rows_of}
 use Rattle.mm_frame.specs.Code.KeptSymbols.{AreSymbols}
-use Rattle.mm_frame.specs.Code.{KeptPairTable.{KnowsPairs}, KeptShared.{shared_values}}
+use Rattle.mm_frame.specs.Code.{KeptDisjointRows.{KnowsPairs}, KeptShared.{shared_values}}
 use Rattle.mm_statement.specs.Language.Item.{Said}
 use Rattle.mm_frame.specs.Language.Sound.{sound_items}
 use Rattle.mm_frame.specs.declared.pair_lists.PairLists.{PairLists}
@@ -39,7 +39,7 @@ pub record IsPassed (all : List (List ℕ)) (said : List Said) (passed : Passed)
   pub rows : AreRows IsLabelTold said (rows_of passed.rows)
   pub symbols : AreSymbols all (sound_items said) passed.expressions
   pub active : AreActiveKept (sound_items said) passed.expressions passed.active
-  pub pair_table : KnowsPairs all (sound_items said) passed.pair_table
+  pub disjoint_rows : KnowsPairs all (sound_items said) passed.disjoint_rows
 
 -- the draft is that after these items: the symbols of the last one, and their numbers, are nothing that is said
 abbrev pub IsDraft : List (List ℕ) → List Said → Draft → Type 0

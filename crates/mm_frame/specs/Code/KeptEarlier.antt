@@ -9,7 +9,7 @@ use Rattle.mm_frame.specs.Code.BlockMarks.{block_marks}
 use Rattle.mm_frame.specs.Code.LastItems.{is_essential_item}
 use Rattle.mm_frame.specs.Language.Scope.{active_numbers}
 use Rattle.mm_frame.specs.Code.KeptTables.{Knows}
-use Rattle.mm_frame.specs.Code.KeptPairTable.{KnowsPairs}
+use Rattle.mm_frame.specs.Code.KeptDisjointRows.{KnowsPairs}
 use Rattle.mm_frame.specs.Code.KeptVariables.{AreVariablesOf}
 use Rattle.mm_machine.specs.Language.NumberedSymbols.{AreSymbolsRead}
 use Rattle.mm_frame.specs.Code.KeptSymbols.{AreExpressions, AreNumbered, AreSymbols}

@@ -32,17 +32,17 @@ pub record IsList (all : List (List ℕ)) (lists : PairLists) (k : ℕ) (pairs :
   pub order : AreInOrder list.items
 
 -- the number of the list that is made for this count of items
-abbrev pub list_made : PairLists → ℕ → Option ℕ
-list_made lists count = get nat_eq lists.made count
+abbrev pub listed_for : PairLists → ℕ → Option ℕ
+listed_for lists count = get nat_eq lists.by_count count
 
 -- the list with this number has the pairs that are active after this many of the items
-pub record IsMadeFor (all : List (List ℕ)) (before : List Said) (lists : PairLists) (count k : ℕ) : Type 0 where
+pub record IsListFor (all : List (List ℕ)) (before : List Said) (lists : PairLists) (count k : ℕ) : Type 0 where
   pub within : count ≤ length before
   pub list : IsList all lists k (active_pairs (take count before))
 
 -- this holds of each list that is made
-abbrev pub AreMade : List (List ℕ) → List Said → PairLists → Type 0
-AreMade all before lists = (count k : ℕ) → list_made lists count ≡ Some k → IsMadeFor all before lists count k
+abbrev pub AreListsFor : List (List ℕ) → List Said → PairLists → Type 0
+AreListsFor all before lists = (count k : ℕ) → listed_for lists count ≡ Some k → IsListFor all before lists count k
 
 -- the lists that were there still are, with the same numbers, and there may be more
 abbrev pub KeepsLists : PairLists → PairLists → Type 0

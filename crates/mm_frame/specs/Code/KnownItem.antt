@@ -3,7 +3,7 @@ use Rattle.std.specs.Prelude.{◌≡◌, ℕ, true, Some, List, map, slice_get, 
 use Rattle.std.specs.Option.{option_map}
 use Rattle.mm_store.specs.declared.item.Item as store
 use Rattle.mm_store.specs.Language.FilesView.{FilesView}
-use Rattle.mm_frame.specs.declared.again.KnownStatement.{KnownStatement}
+use Rattle.mm_frame.specs.declared.older.KnownStatement.{KnownStatement}
 use Rattle.mm_machine.specs.declared.symbol.NumberedSymbol.{NumberedSymbol}
 use Rattle.mm_statement.specs.Language.Item.{Said, is_read}
 use Rattle.mm_frame.specs.Language.Base.{BaseView, before, said_at, is_sound_at}
@@ -17,7 +17,7 @@ abbrev pub numbers_of : List NumberedSymbol → List ℕ
 numbers_of symbols = map (λ kept. kept.name) symbols
 
 -- an item of a list is the same bytes of one piece, of the same kind
-pub record IsAgain (found : List store.Item) (i : ℕ) (item : store.Item) : Type 0 where
+pub record IsSameItem (found : List store.Item) (i : ℕ) (item : store.Item) : Type 0 where
   pub was : store.Item
   pub there : slice_get found i ≡ Some was
   pub same : AreOneRange was item
@@ -28,8 +28,8 @@ pub record IsKnownItem (names : List (List ℕ)) (files : FilesView) (item : sto
   pub symbols : (said : Said) → Says files item said → AreNameNumbers names (numbers_of known.symbols.now) said.symbols
 
 -- the item with this number in a base is the same bytes and sound, and what is known of it are the symbols that are kept there
-pub record IsSoundAgain (names : List (List ℕ)) (found : List store.Item) (base : BaseView) (i : ℕ) (item : store.Item) (known : KnownStatement) : Type 0 where
-  pub again : IsAgain found i item
+pub record IsSoundOlder (names : List (List ℕ)) (items : List store.Item) (base : BaseView) (i : ℕ) (item : store.Item) (known : KnownStatement) : Type 0 where
+  pub same_item : IsSameItem items i item
   pub sound : is_sound_at base i ≡ true
   pub read : is_read (said_at base i).kind ≡ true
   pub symbols : symbols_of names known.symbols.now ≡ expression (before base i) (said_at base i)

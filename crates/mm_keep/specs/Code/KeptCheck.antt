@@ -1,8 +1,8 @@
 -- What is kept of the checks of proofs.
 use Rattle.std.specs.Prelude.{◌≡◌, ◌<◌, ℕ, List, Option, Some, None, length, map, slice_get}
 use Rattle.mm_proof.specs.mm_verdict.Language.Work.{Judgement}
-use Rattle.mm_keep.specs.declared.kept.KeptCheck.TheInside.{Inside as KeptCheck}
-use Rattle.mm_keep.specs.declared.kept.Checks.TheInside.{Inside}
+use Rattle.mm_keep.specs.declared.checks.KeptCheck.TheInside.{Inside as KeptCheck}
+use Rattle.mm_keep.specs.declared.checks.Checks.TheInside.{Inside}
 
 -- what a check said
 abbrev pub judgement_kept : KeptCheck → Judgement

@@ -4,11 +4,11 @@ use Rattle.mm_frame.proofs.lemmas.frames.SharedFrames.{frames_equal, frames_none
 use Rattle.mm_frame.proofs.assertions.keep_frame.Goals as goal
 
 pub returns-then-not-framed-clause-frames : goal.returns-then-not-framed-clause-frames
-returns-then-not-framed-clause-frames c all said item known asked disjoints framed parts are =
+returns-then-not-framed-clause-frames c all said item known answers disjoints framed parts are =
     frames_none all said item c.args.frames.now c.pass.new.self c.in_ok-pass.ensures are (ap (λ b. numbers_if b (sound_items said) item) (sym c.if-not-framed.true ∙ framed))
 
 pub returns-then-branch-clause-frames : goal.returns-then-branch-clause-frames
-returns-then-branch-clause-frames c all said item known asked disjoints framed parts are =
+returns-then-branch-clause-frames c all said item known answers disjoints framed parts are =
     let before = sound_items said in
     let old = c.args.frames.now in
     let new = c.add_same.new.self in
@@ -20,7 +20,7 @@ returns-then-branch-clause-frames c all said item known asked disjoints framed p
     frames_same all said item old new hypotheses r same are (ap Some numbers ∙ ap (λ b. numbers_if b before item) (sym c.if-not-framed.false ∙ framed)) reach
 
 pub returns-clause-frames : goal.returns-clause-frames
-returns-clause-frames c = on_ok_weaker c.add.result (λ added all said item known asked disjoints framed parts are.
+returns-clause-frames c = on_ok_weaker c.add.result (λ added all said item known answers disjoints framed parts are.
     let before = sound_items said in
     let old = c.args.frames.now in
     let new = c.add_same.new.self in
@@ -30,5 +30,5 @@ returns-clause-frames c = on_ok_weaker c.add.result (λ added all said item know
     let same = subst (λ b. MatchBool b (AddsSame old new c.deref.result.now r) (new ≡ old)) c.if-branch.false c.in_ok-add_same.ensures in
     frames_equal all said item new c.add.new.self _ r added (subst (AreFrames all said) (sym same) are) (record {
       hypotheses = ap Some (c.in_ok-hypotheses.ensures.items ∙ c.deref-2.ensures.value ∙ numbers) ∙ ap (λ b. numbers_if b before item) (sym c.if-not-framed.false ∙ framed);
-      pairs = c.in_ok-pairs.ensures.pairs all before item known asked numbers;
+      pairs = c.in_ok-pairs.ensures.pairs all before item known answers numbers;
     }) reach) c.add.ensures

@@ -8,17 +8,17 @@ use Rattle.mm_frame.specs.Code.{LastItems.{is_active_at, is_essential_item}, Kep
 use Rattle.mm_frame.specs.Code.{KeptVariables.{by_essential, AddsOne, AddsAll, IsKeptVariable, AreVariablesOf, IsKeptBy, known_float}, PairOrder.{is_among}}
 use Rattle.mm_frame.proofs.lemmas.frames.{Frames.{essential_neither}, HypothesisNumbers.{to_active_number, from_active_number, active_numbers_more}}
 use Rattle.mm_frame.proofs.lemmas.{lists.{Members.{In, in_contains, contains_in, in_left, in_flat, from_flat}, Rising.{in_among}}, scope.BlockLemmas.{get_front, get_cases}}
-use Rattle.mm_frame.proofs.lemmas.{scope.EndLemmas.{active_at_front}, names.NamedLemmas.{get_before}, pairs.AskedLemmas.{active_below}}
+use Rattle.mm_frame.proofs.lemmas.{scope.EndLemmas.{active_at_front}, names.NamedLemmas.{get_before}, pairs.PairAnswerLemmas.{active_below}}
 use Rattle.mm_machine.specs.declared.symbol.NumberedSymbol.{NumberedSymbol}
 use Rattle.mm_statement.specs.Language.Item.{Said}
 
 -- ---- those that are left, and those that are added
 
 -- one more of the last ones
-pub one_gone : (found : List EssentialVariable) (m : ℕ) (v d : EssentialVariable) → m < length found → Contains (drop m found) v → (v ≡ get_or found m d) ⊎ Contains (drop (suc m) found) v
-one_gone [] m v d within c = absurd (omega arith)
-one_gone (x ∷ found) zero v d within c = elim (contains_in v (x ∷ found) c) [ inl e ↦ inl (sym e) | inr h ↦ inr (in_contains v found h) ]
-one_gone (x ∷ found) (suc m) v d within c = one_gone found m v d (omega arith) c
+pub one_dropped : (found : List EssentialVariable) (m : ℕ) (v d : EssentialVariable) → m < length found → Contains (drop m found) v → (v ≡ get_or found m d) ⊎ Contains (drop (suc m) found) v
+one_dropped [] m v d within c = absurd (omega arith)
+one_dropped (x ∷ found) zero v d within c = elim (contains_in v (x ∷ found) c) [ inl e ↦ inl (sym e) | inr h ↦ inr (in_contains v found h) ]
+one_dropped (x ∷ found) (suc m) v d within c = one_dropped found m v d (omega arith) c
 
 pub adds_more : (essentials : List ℕ) (number : ℕ) (symbols : List NumberedSymbol) (k : ℕ) (d : NumberedSymbol) (old mid new : List EssentialVariable) → k < length symbols → AddsAll essentials number (take k symbols) old mid
     → AddsOne essentials number (get_or symbols k d) mid new → AddsAll essentials number (take (k + 1) symbols) old new
@@ -97,7 +97,7 @@ left : (before : List Said) (item : Said) (old : List (List NumberedSymbol)) (sy
     → length old ≡ length before → AreVariablesOf (active_numbers is_essential_item before) old found
     → ((v : EssentialVariable) → Contains (drop count found) v → (n : ℕ) → Contains (active_numbers is_essential_item (before ++ item ∷ [])) n → n < v.number)
     → AreLeftOf (active_numbers is_essential_item (before ++ item ∷ [])) (old ++ symbols ∷ []) (length before) (take count found)
-left before item old symbols found count long are gone = record {
+left before item old symbols found count long are dropped = record {
   within = λ v c. (let w = are.within v (was v c) in let l = length-append old (symbols ∷ []) in omega arith);
   from = λ v c. subst (λ w. Contains w v.symbol) (sym (same_kept old symbols v.number (are.within v (was v c)))) (are.from v (was v c));
   to =
@@ -115,7 +115,7 @@ left before item old symbols found count long are gone = record {
         active = stays;
         there = elim (Contains-append_cases (take count found) (drop count found) (by_essential kept.first s) (subst (λ w. Contains w (by_essential kept.first s)) (sym (take-append-drop count found)) kept.there)) [
           | inl a ↦ a
-          | inr b ↦ (let less = gone (by_essential kept.first s) b kept.first stays in absurd (omega arith))
+          | inr b ↦ (let less = dropped (by_essential kept.first s) b kept.first stays in absurd (omega arith))
         ];
       }
       );
@@ -128,8 +128,8 @@ pub variables_left : (before : List Said) (item : Said) (old : List (List Number
     (count : ℕ) → length old ≡ length before → AreVariablesOf (active_numbers is_essential_item before) old found
     → ((v : EssentialVariable) → Contains (drop count found) v → (n : ℕ) → Contains (active_numbers is_essential_item (before ++ item ∷ [])) n → n < v.number)
     → is_among (active_numbers is_essential_item (before ++ item ∷ [])) (length before) ≡ false → AreVariablesOf (active_numbers is_essential_item (before ++ item ∷ [])) (old ++ symbols ∷ []) (take count found)
-variables_left before item old symbols found count long are gone out =
-    let l = left before item old symbols found count long are gone in
+variables_left before item old symbols found count long are dropped out =
+    let l = left before item old symbols found count long are dropped in
     let behind = active_numbers is_essential_item (before ++ item ∷ []) in
     record {
       within = l.within;
@@ -156,7 +156,7 @@ pub variables_added : (before : List Said) (item : Said) (old : List (List Numbe
     (active_numbers is_essential_item (before ++ item ∷ [])) (length before) (item_list (old ++ symbols ∷ []) (length before)) (take count found)
     new
     → AreVariablesOf (active_numbers is_essential_item (before ++ item ∷ [])) (old ++ symbols ∷ []) new
-variables_added before item old symbols found new count long are gone among adds = record {
+variables_added before item old symbols found new count long are dropped among adds = record {
   within = λ v c. elim (cases v c) [ inl a ↦ l.within v a | inr b ↦ (let e = (adds.own v b).0 in let k = length-append old (symbols ∷ []) in omega arith) ];
   from = λ v c. elim (cases v c) [ inl a ↦ l.from v a | inr b ↦ (let r = adds.own v b in subst (λ w. Contains (item_list (old ++ symbols ∷ []) w) v.symbol) (sym r.0) r.1) ];
   to =
@@ -189,7 +189,7 @@ variables_added before item old symbols found new count long are gone among adds
     behind = active_numbers is_essential_item (before ++ item ∷ [])
 
     l : AreLeftOf behind (old ++ symbols ∷ []) (length before) (take count found)
-    l = left before item old symbols found count long are gone
+    l = left before item old symbols found count long are dropped
 
     cases : (v : EssentialVariable) → Contains new v → Contains (take count found) v ⊎ Contains adds.more v
     cases v c = Contains-append_cases (take count found) adds.more v (subst (λ w. Contains w v) adds.whole c)

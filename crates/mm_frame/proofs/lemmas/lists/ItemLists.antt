@@ -37,6 +37,6 @@ list_of xs (p ∷ parts) zero = refl
 list_of xs (p ∷ parts) (suc n) = list_of xs parts n
 
 -- one more item, with the list of an earlier one
-pub list_again : {X : Type 0} (xs : List X) (parts : List Part) (n : ℕ) → map (elements_of xs) (parts ++ get_or parts n no_part ∷ []) ≡ map (elements_of xs) parts ++ item_list (map (elements_of xs) parts) n ∷ []
-list_again xs parts n =
+pub older_list : {X : Type 0} (xs : List X) (parts : List Part) (n : ℕ) → map (elements_of xs) (parts ++ get_or parts n no_part ∷ []) ≡ map (elements_of xs) parts ++ item_list (map (elements_of xs) parts) n ∷ []
+older_list xs parts n =
     map-append (elements_of xs) parts (get_or parts n no_part ∷ []) ∙ ap (λ l. map (elements_of xs) parts ++ l ∷ []) (sym (list_of xs parts n))

@@ -7,10 +7,10 @@ use native.Mathlib.Decide.{dec_lt}
 use Rattle.mm_frame.{specs.Code.{LastItems.{IsRising}, PairOrder.{is_among}}, proofs.lemmas.{lists.Members.{In, in_contains, contains_in, in_get, get_in}, frames.Frames.{in_at}}}
 
 -- the beginning of rising numbers rises, and so do they with a larger one after them
-pub rising_front : (kept gone : List ℕ) → IsRising (kept ++ gone) → IsRising kept
-rising_front kept gone r i j d l m =
-    let n = length-append kept gone in
-    subst (λ a. a < get_or kept j d) (get_or_append_left kept gone d i (omega arith)) (subst (λ b. get_or (kept ++ gone) i d < b) (get_or_append_left kept gone d j m) (r i j d l (omega arith)))
+pub rising_front : (kept dropped : List ℕ) → IsRising (kept ++ dropped) → IsRising kept
+rising_front kept dropped r i j d l m =
+    let n = length-append kept dropped in
+    subst (λ a. a < get_or kept j d) (get_or_append_left kept dropped d i (omega arith)) (subst (λ b. get_or (kept ++ dropped) i d < b) (get_or_append_left kept dropped d j m) (r i j d l (omega arith)))
 
 pub rising_more : (numbers : List ℕ) (n : ℕ) → IsRising numbers → ((m : ℕ) → In m numbers → m < n) → IsRising (numbers ++ n ∷ [])
 rising_more numbers n r h i j d l m = elim (dec_lt j (length numbers)) [

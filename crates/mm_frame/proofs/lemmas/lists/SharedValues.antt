@@ -60,8 +60,8 @@ shared_push values more old new place kept (Ok u) ok h view =
 shared_push values more old new place kept (Err e) ok h view = tt
 
 -- or with what an earlier one has
-pub shared_again : {X T E : Type 0} (values : List X) (old new : List (Option ℕ)) (place : Option ℕ) (number : ℕ) (kept : List (Option X)) (r : Result T E) → OnOk r (new ≡ old ++ place ∷ [])
+pub shared_once_more : {X T E : Type 0} (values : List X) (old new : List (Option ℕ)) (place : Option ℕ) (number : ℕ) (kept : List (Option X)) (r : Result T E) → OnOk r (new ≡ old ++ place ∷ [])
     → place ≡ value_kept old number → map (value_at values) old ≡ kept → OnOk r (map (value_at values) new ≡ kept ++ value_kept kept number ∷ [])
-shared_again values old new place number kept (Ok u) ok e view =
+shared_once_more values old new place number kept (Ok u) ok e view =
     grind (arith, common_steps, map-append (value_at values) old (place ∷ []), value_of values old number) steps 200000
-shared_again values old new place number kept (Err e) ok f view = tt
+shared_once_more values old new place number kept (Err e) ok f view = tt

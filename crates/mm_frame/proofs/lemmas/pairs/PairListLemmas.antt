@@ -13,7 +13,7 @@ use Rattle.mm_frame.proofs.lemmas.pairs.{FramePairs.{each_pair}, ActivePairLemma
 use Rattle.mm_frame.proofs.lemmas.lists.{Members.{get_join, In, in_left, in_cases, in_get, get_in, in_contains, contains_in, in_map, from_map, front_get}, Rising.{rising_front}}
 use Rattle.mm_frame.{proofs.lemmas.base.BaseLemmas.{rows_more}, specs.{declared.pair_lists.PairLists.{PairLists}, Language.{Scope.{stays, active_numbers}, Sound.{AreSound, sound_items}}}}
 use Rattle.mm_frame.specs.{Language.{Framing.{expression, pairs_of, active_pairs}, Answering.{AreRows, is_told_proof}}, Code.LastItems.{is_active_at, is_disjoint_item, IsRising}}
-use Rattle.mm_frame.specs.Code.{KeptSymbols.{AreSymbols, AreNumbered}, KeptPairLists.{pairs_among, with_low_first, IsList, list_made, IsMadeFor, AreMade, KeepsLists, AreFrontNumbers}}
+use Rattle.mm_frame.specs.Code.{KeptSymbols.{AreSymbols, AreNumbered}, KeptPairLists.{pairs_among, with_low_first, IsList, listed_for, IsListFor, AreListsFor, KeepsLists, AreFrontNumbers}}
 use Rattle.mm_frame.specs.Code.{KeptLists.{item_list}, KeptSortedLists.{HasEach, HasSame, IsThere}, KeptAssertions.{TellsPairs}}
 use native.Mathlib.Decide.{dec_lt}
 use Rattle.mm_machine.specs.{declared.symbol.NumberedSymbol.{NumberedSymbol}, Language.Frame.{Symbol, ArePair, AreSamePairs}}
@@ -304,26 +304,26 @@ list_stays all old new k pairs keeps is = record {
 }
 
 -- the lists that are made stay right after more items
-pub made_more : (all : List (List ℕ)) (before later : List Said) (lists : PairLists) → AreMade all before lists → AreMade all (before ++ later) lists
-made_more all before later lists m count k e =
+pub lists_more : (all : List (List ℕ)) (before later : List Said) (lists : PairLists) → AreListsFor all before lists → AreListsFor all (before ++ later) lists
+lists_more all before later lists m count k e =
     let r = m count k e in
     grind (arith, common_steps, take-append-le count before later r.within) steps 200000
 
 -- one more list
-pub made_one_more : (all : List (List ℕ)) (before : List Said) (old new : PairLists) (count k : ℕ) → KeepsLists old new → AreMade all before old → count ≤ length before → IsList all new k (active_pairs (take count before))
-    → ((other : ℕ) → list_made new other ≡ cond (nat_eq count other) (Some k) (list_made old other)) → AreMade all before new
-made_one_more all before old new count k keeps made within is told other j e = by_test (nat_eq count other) refl
+pub lists_one_more : (all : List (List ℕ)) (before : List Said) (old new : PairLists) (count k : ℕ) → KeepsLists old new → AreListsFor all before old → count ≤ length before → IsList all new k (active_pairs (take count before))
+    → ((other : ℕ) → listed_for new other ≡ cond (nat_eq count other) (Some k) (listed_for old other)) → AreListsFor all before new
+lists_one_more all before old new count k keeps by_count within is told other j e = by_test (nat_eq count other) refl
   where
-    this : other ≡ count → k ≡ j → IsMadeFor all before new other j
-    this z y = subst (λ c. IsMadeFor all before new c j) (sym z) (record { within = within; list = subst (λ i. IsList all new i (active_pairs (take count before))) y is })
+    this : other ≡ count → k ≡ j → IsListFor all before new other j
+    this z y = subst (λ c. IsListFor all before new c j) (sym z) (record { within = within; list = subst (λ i. IsList all new i (active_pairs (take count before))) y is })
 
-    by_test : (b : Bool) → nat_eq count other ≡ b → IsMadeFor all before new other j
+    by_test : (b : Bool) → nat_eq count other ≡ b → IsListFor all before new other j
     by_test true t = elim (eqb_tells count other) [
-      | inl p ↦ this (sym p.1) (grind (arith, common_steps, sym (ap (λ b. cond b (Some k) (list_made old other)) t) ∙ sym (told other) ∙ e) steps 200000)
+      | inl p ↦ this (sym p.1) (grind (arith, common_steps, sym (ap (λ b. cond b (Some k) (listed_for old other)) t) ∙ sym (told other) ∙ e) steps 200000)
       | inr p ↦ absurd (false≢true (sym p.0 ∙ t))
     ]
     by_test false t =
-        let r = made other j (sym (ap (λ b. cond b (Some k) (list_made old other)) t) ∙ sym (told other) ∙ e) in
+        let r = by_count other j (sym (ap (λ b. cond b (Some k) (listed_for old other)) t) ∙ sym (told other) ∙ e) in
         record { within = r.within; list = list_stays all old new j (active_pairs (take other before)) keeps r.list }
 
 -- the list with this number is of pairs with this reading

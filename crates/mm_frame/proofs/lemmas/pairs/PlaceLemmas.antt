@@ -6,13 +6,13 @@ use Rattle.std.{proofs.Common.{drop, slice_get, get_or, refl, sym, ◌∙◌, ap
 use native.Mathlib.Decide.{dec_lt}
 use Rattle.mm_machine.specs.{declared.symbol.NumberedSymbol.{NumberedSymbol}, Language.{Frame.{Symbol}, Names.{name_at}}}
 use Rattle.mm_machine.specs.Language.NumberedSymbols.{symbol_of, symbols_of, pair_of, kept_pairs, IsNumbered, IsPairNumbered, ArePairsRead}
-use Rattle.mm_frame.specs.{declared.{paired.PairTable.{PairTable}, places.Places.{Places}, earlier.Earlier.{Earlier}}, Language.{Framing.{symbol, expression, active_pairs}, Marks.{Mark}}}
-use Rattle.mm_frame.specs.{Language.Answering.{are_paired}, Code.{BlockMarks.{stays_by}, KeptEarlier.{KnowsEarlier}, KeptPairTable.{row_at, IsDisjointAt, ReadsPairs}}}
+use Rattle.mm_frame.specs.{declared.{disjoint_rows.DisjointRows.{DisjointRows}, places.Places.{Places}, earlier.Earlier.{Earlier}}, Language.{Framing.{symbol, expression, active_pairs}, Marks.{Mark}}}
+use Rattle.mm_frame.specs.{Language.Answering.{are_paired}, Code.{BlockMarks.{stays_by}, KeptEarlier.{KnowsEarlier}, KeptDisjointRows.{row_at, IsDisjointAt, ReadsPairs}}}
 use Rattle.mm_frame.specs.Code.{KeptPlaces.{place_of, ArePlaces, later_place, later_places_at, pair_at}, KeptSymbols.{AreSymbols}, LastItems.{IsRising}, Numbers.{IsNameNumber}, KeptLists.{item_list}}
 use Rattle.mm_frame.proofs.lemmas.frames.{Frames.{in_at}, HypothesisNumbers.{rise_step, same_rising, drop_step}}
 use Rattle.mm_frame.proofs.lemmas.lists.Members.{In, in_contains, contains_in, in_map, from_map, in_filter, from_filter, in_flat, from_flat, get_in, has_in, in_cond, first_cases, in_first, in_later}
-use Rattle.mm_frame.proofs.lemmas.{lists.Rising.{get_drop}, names.NumberLemmas.{name_there}, pairs.{ActivePairLemmas.{pairs_with}, PairTableLemmas.{named_in, paired_from, paired_to, active_at_marks}}}
-use Rattle.mm_frame.proofs.lemmas.pairs.AskedLemmas.{names_apart}
+use Rattle.mm_frame.proofs.lemmas.{lists.Rising.{get_drop}, names.NumberLemmas.{name_there}, pairs.ActivePairLemmas.{pairs_with}}
+use Rattle.mm_frame.proofs.lemmas.pairs.{DisjointRowLemmas.{named_in, paired_from, paired_to, active_at_marks}, PairAnswerLemmas.{names_apart}}
 use Rattle.mm_statement.specs.Language.Item.{Said, is_labelled, is_kind, Disjoint}
 
 -- ---- one more symbol
@@ -81,7 +81,7 @@ picked_numbered all first whole places a others k d l =
 -- ---- those that an active `$d` has together with a variable
 
 -- what the search rests on
-pub record Searches (all : List (List ℕ)) (before : List Said) (table : PairTable) (marks : List Mark) (expressions : List (List NumberedSymbol)) (places : Places) (variables : List NumberedSymbol) (n : ℕ) (first : NumberedSymbol) : Type 0 where
+pub record Searches (all : List (List ℕ)) (before : List Said) (table : DisjointRows) (marks : List Mark) (expressions : List (List NumberedSymbol)) (places : Places) (variables : List NumberedSymbol) (n : ℕ) (first : NumberedSymbol) : Type 0 where
   pub reads : ReadsPairs all before table marks
   pub symbols : AreSymbols all before expressions
   pub placed : ArePlaces variables places
@@ -99,7 +99,7 @@ read_at : (all : List (List ℕ)) (before : List Said) (expressions : List (List
     → (at : IsDisjointAt before name d) → symbols_of all (item_list expressions d) ≡ expression (take d before) at.item
 read_at all before expressions name d a at = a.each d at.item at.there (or_right (is_labelled (at.item).kind) (is_kind Disjoint (at.item).kind) at.disjoint)
 
-found_from : (all : List (List ℕ)) (before : List Said) (table : PairTable) (marks : List Mark) (expressions : List (List NumberedSymbol)) (places : Places) (variables : List NumberedSymbol) (n : ℕ) (first : NumberedSymbol)
+found_from : (all : List (List ℕ)) (before : List Said) (table : DisjointRows) (marks : List Mark) (expressions : List (List NumberedSymbol)) (places : Places) (variables : List NumberedSymbol) (n : ℕ) (first : NumberedSymbol)
     → Searches all before table marks expressions places variables n first → (k : ℕ) → In k (flat_map (later_places_at places marks expressions n)
     (row_at table first.name)) → In k (passing (is_partner all before first) (n + 1) (drop (n + 1) variables))
 found_from all before table marks expressions places variables n first s k m =
@@ -125,7 +125,7 @@ found_from all before table marks expressions places variables n first s k m =
     let z : (n + 1) + (k - (n + 1)) ≡ k = omega arith in
     grind (arith, common_steps, to_passing (is_partner all before first) (n + 1) (drop (n + 1) variables) (k - (n + 1)) y (get_drop variables (n + 1) (k - (n + 1)) k z ∙ found.1) paired) steps 500000
 
-found_to : (all : List (List ℕ)) (before : List Said) (table : PairTable) (marks : List Mark) (expressions : List (List NumberedSymbol)) (places : Places) (variables : List NumberedSymbol) (n : ℕ) (first : NumberedSymbol)
+found_to : (all : List (List ℕ)) (before : List Said) (table : DisjointRows) (marks : List Mark) (expressions : List (List NumberedSymbol)) (places : Places) (variables : List NumberedSymbol) (n : ℕ) (first : NumberedSymbol)
     → Searches all before table marks expressions places variables n first → (k : ℕ) → In k (passing (is_partner all before first) (n + 1)
     (drop (n + 1) variables)) → In k (flat_map (later_places_at places marks expressions n) (row_at table first.name))
 found_to all before table marks expressions places variables n first s k m =
@@ -151,7 +151,7 @@ found_to all before table marks expressions places variables n first s k m =
     (subst (λ c. In k (cond c (flat_map (later_place places n) kept) [])) (sym (sym (active_at_marks before marks d (s.reads).marks) ∙ have.stayed))
     (in_flat (later_place places n) one.0 k kept one.1 later))
 
-pub partners_added : (all : List (List ℕ)) (before : List Said) (table : PairTable) (marks : List Mark) (expressions : List (List NumberedSymbol)) (places : Places) (variables : List NumberedSymbol) (n : ℕ) (first : NumberedSymbol)
+pub partners_added : (all : List (List ℕ)) (before : List Said) (table : DisjointRows) (marks : List Mark) (expressions : List (List NumberedSymbol)) (places : Places) (variables : List NumberedSymbol) (n : ℕ) (first : NumberedSymbol)
     → Searches all before table marks expressions places variables n first → (found : List ℕ) → IsRising found → ((k : ℕ) → Contains found k ↔ Contains (flat_map (later_places_at places marks expressions n) (row_at table first.name)) k)
     → (said : List (Symbol × Symbol)) (kept : List (NumberedSymbol × NumberedSymbol)) → ArePairsRead all said kept
     → ArePairsRead all (said ++ filter (are_paired (active_pairs before)) (pairs_with (symbol_of all first) (symbols_of all (drop (n + 1) variables)))) (kept ++ flat_map (pair_at first variables) found)

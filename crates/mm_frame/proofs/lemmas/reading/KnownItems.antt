@@ -3,7 +3,7 @@ use Rattle.std.proofs.{Common.{rules, ◌≡◌, ℕ, zero, suc, Some, List, [],
 use Rattle.std.{proofs.lemmas.Option.{same_Some, slice_get_within, slice_get-get_or, slice_get-map, get_or_from_slice_get}, specs.{Option.{option_map}, List.{AllZip}}}
 use Rattle.mm_store.specs.Language.FilesView.{FilesView}
 use Rattle.mm_machine.specs.{declared.symbol.NumberedSymbol.{NumberedSymbol}, Language.{Frame.{Symbol}, Names.{Begins, name_at}, NumberedSymbols.{symbol_of, symbols_of, IsNumbered}}}
-use Rattle.mm_frame.specs.{Language.{Framing.{symbol}, Answering.{BaseAnswers}, Older.{HasOlder}}, Code.{KnownItem.{IsAgain, numbers_of}, Numbers.{AreNameNumbers}}}
+use Rattle.mm_frame.specs.{Language.{Framing.{symbol}, Answering.{BaseAnswers}, Older.{HasOlder}}, Code.{KnownItem.{IsSameItem, numbers_of}, Numbers.{AreNameNumbers}}}
 use Rattle.mm_frame.proofs.lemmas.names.NumberLemmas.{begins_on, there_from_map}
 use Rattle.mm_statement.specs.Language.{Item.{Said, item_at}, Statement.{OneRangeSaysOne, Says}}
 use Rattle.mm_store.specs.declared.item.Item as store
@@ -16,9 +16,9 @@ says_at files (x ∷ found) (y ∷ said) (suc i) item h e = says_at files found 
 says_at files (x ∷ found) [] i item h e = absurd h
 
 -- and so does the same item once more
-pub same_again : (files : FilesView) (found : List store.Item) (said : List Said) (i : ℕ) (item : store.Item) → OneRangeSaysOne → AllZip (Says files) found said → IsAgain found i item → (told : Said)
+pub same_says_same : (files : FilesView) (found : List store.Item) (said : List Said) (i : ℕ) (item : store.Item) → OneRangeSaysOne → AllZip (Says files) found said → IsSameItem found i item → (told : Said)
     → Says files item told → item_at said i ≡ told
-same_again files found said i item law h again told says = law files again.was item again.same (item_at said i) told (says_at files found said i again.was h again.there) says
+same_says_same files found said i item law h again told says = law files again.was item again.same (item_at said i) told (says_at files found said i again.was h again.there) says
 
 -- the symbols that are kept of an item have the numbers of its symbols
 pub numbers_known : (names : List (List ℕ)) (before : List Said) (symbols : List (List ℕ)) (kept : List NumberedSymbol)

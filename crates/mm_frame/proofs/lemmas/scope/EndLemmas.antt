@@ -54,19 +54,19 @@ last_of (n ∷ numbers) = elim (last_of numbers) [
 ]
 
 -- what is left is a beginning, and the longest of which all are still active: so it is what is active after the `$}`
-pub pruned_numbers : (test : Said → Bool) (before : List Said) (item : Said) (kept gone : List ℕ) → test item ≡ false → active_numbers test before ≡ kept ++ gone → ((n : ℕ) → In n gone → is_active_at (before ++ item ∷ []) n ≡ false)
+pub pruned_numbers : (test : Said → Bool) (before : List Said) (item : Said) (kept dropped : List ℕ) → test item ≡ false → active_numbers test before ≡ kept ++ dropped → ((n : ℕ) → In n dropped → is_active_at (before ++ item ∷ []) n ≡ false)
     → ((front : List ℕ) (n : ℕ) → kept ≡ front ++ n ∷ [] → is_active_at (before ++ item ∷ []) n ≡ true) → kept ≡ active_numbers test (before ++ item ∷ [])
-pruned_numbers test before item kept gone t e ended last =
+pruned_numbers test before item kept dropped t e ended last =
     let whole = before ++ item ∷ [] in
-    same_rising kept (active_numbers test whole) (rising_front kept gone (subst IsRising e (active_numbers_rise test before))) (active_numbers_rise test whole)
+    same_rising kept (active_numbers test whole) (rising_front kept dropped (subst IsRising e (active_numbers_rise test before))) (active_numbers_rise test whole)
     (λ n h. (let r = from_active_number test before n (there n h) in
     to_active_number test (before ++ item ∷ []) n r.0 (get_front before item r.0 n r.1) (all_active n h (last_of kept)) r.3))
-    (λ n h. let p = number_before test before item t n h in elim (in_cases n kept gone (subst (In n) e p.0)) [
+    (λ n h. let p = number_before test before item t n h in elim (in_cases n kept dropped (subst (In n) e p.0)) [
       | inl a ↦ a
       | inr b ↦ absurd (false≢true (sym (ended n b) ∙ p.1))
     ]) where
       there : (n : ℕ) → In n kept → In n (active_numbers test before)
-      there n h = subst (In n) (sym e) (in_left n kept gone h)
+      there n h = subst (In n) (sym e) (in_left n kept dropped h)
 
       all_active : (m : ℕ) → In m kept → IsEmptyOrEnds kept → is_active_at (before ++ item ∷ []) m ≡ true
       all_active m h (inl q) = absurd (subst (In m) q h)
@@ -74,7 +74,7 @@ pruned_numbers test before item kept gone t e ended last =
         | inl a ↦ let s =
             from_active_number test before n (there n (subst (In n) (sym q) (in_right n front (n ∷ []) (inl refl)))) in
             active_at_earlier before item m n s.0
-            (front_below front (n ∷ []) m n (subst IsRising q (rising_front kept gone (subst IsRising e (active_numbers_rise test before)))) a (inl refl)) s.1
+            (front_below front (n ∷ []) m n (subst IsRising q (rising_front kept dropped (subst IsRising e (active_numbers_rise test before)))) a (inl refl)) s.1
             (from_active_number test before m (there m (subst (In m) (sym q) (in_left m front (n ∷ []) a)))).2 (last front n q)
         | inr b ↦ grind (arith, common_steps) steps 200000
       ]
@@ -86,15 +86,15 @@ active_by_marks items n = grind (arith, common_steps, stays_of (drop (suc n) ite
 pub pruned_by_marks : (marks : List Mark) (old new : List ℕ) → IsPruned marks old new → (test : Said → Bool) (before : List Said) (item : Said)
     → test item ≡ false → marks ≡ block_marks (before ++ item ∷ []) → old ≡ active_numbers test before → new ≡ active_numbers test (before ++ item ∷ [])
 pruned_by_marks marks old new p test before item t m o =
-    pruned_numbers test before item new p.gone t (sym o ∙ p.parts)
-    (λ n h. active_by_marks (before ++ item ∷ []) n ∙ ap (λ w. stays_by (drop (n + 1) w)) (sym m) ∙ p.ended n (in_contains n p.gone h))
+    pruned_numbers test before item new p.dropped t (sym o ∙ p.parts)
+    (λ n h. active_by_marks (before ++ item ∷ []) n ∙ ap (λ w. stays_by (drop (n + 1) w)) (sym m) ∙ p.ended n (in_contains n p.dropped h))
     (λ front n e. active_by_marks (before ++ item ∷ []) n ∙ ap (λ w. stays_by (drop (n + 1) w)) (sym m) ∙ p.last front n e)
 
 -- what went so far
 pub record Dropped (marks : List Mark) (old new : List ℕ) : Type 0 where
-  pub gone : List ℕ
-  pub parts : old ≡ new ++ gone
-  pub ended : (n : ℕ) → Contains gone n → stays_by (drop (n + 1) marks) ≡ false
+  pub dropped : List ℕ
+  pub parts : old ≡ new ++ dropped
+  pub ended : (n : ℕ) → Contains dropped n → stays_by (drop (n + 1) marks) ≡ false
 
 pub dropped_more : (marks : List Mark) (old now new : List ℕ) (number : ℕ) → Dropped marks old now → now ≡ new ++ number ∷ [] → stays_by (drop (number + 1) marks) ≡ false → Dropped marks old new
 dropped_more marks old now new number d e f = grind (arith, common_steps, contains_in, in_contains) steps 200000

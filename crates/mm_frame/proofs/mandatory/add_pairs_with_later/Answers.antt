@@ -4,8 +4,8 @@ use Rattle.mm_frame.{specs.{Language.{Framing.{active_pairs}, Answering.{are_pai
 use Rattle.mm_frame.proofs.lemmas.pairs.{ActivePairLemmas.{pairs_with}, PlaceLemmas.{reads_earlier}}
 use Rattle.mm_frame.proofs.mandatory.add_pairs_with_later.Goals as goal
 
-pub returns-then-are_short-clause-pairs : goal.returns-then-are_short-clause-pairs
-returns-then-are_short-clause-pairs c = on_ok_weaker c.add_partners.result (λ added all before said first known m placed numbered r there.
+pub returns-then-fewer_variables_than-clause-pairs : goal.returns-then-fewer_variables_than-clause-pairs
+returns-then-fewer_variables_than-clause-pairs c = on_ok_weaker c.add_partners.result (λ added all before said first known m placed numbered r there.
     added all before said first known (subst (λ o. IfSome o (ArePlaces c.args.placed.now.variables.now)) c.in-Some.is placed) numbered r there) c.add_partners.ensures
 
 pub returns-clause-pairs : goal.returns-clause-pairs

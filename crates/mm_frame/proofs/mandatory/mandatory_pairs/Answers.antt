@@ -8,7 +8,7 @@ use Rattle.mm_statement.specs.Language.Item.{is_kind, Floating, item_at}
 use Rattle.mm_frame.proofs.mandatory.mandatory_pairs.Goals as goal
 
 pub returns-clause-pairs : goal.returns-clause-pairs
-returns-clause-pairs c = IfOk-weaker c.active_among.result _ _ (λ pairs found all before item known asked hypotheses.
+returns-clause-pairs c = IfOk-weaker c.active_pairs_among.result _ _ (λ pairs found all before item known answers hypotheses.
     let earlier = c.args.earlier.now in
     let kept = c.deref-2.ensures.value ∙ c.in_ok-put_typed.ensures (subst IsRising (sym known.essentials) (active_numbers_rise is_essential_item before))
     ∙ ap (float_variables earlier.essentials.now earlier.expressions.now) c.deref.ensures.value in
@@ -21,4 +21,4 @@ returns-clause-pairs c = IfOk-weaker c.active_among.result _ _ (λ pairs found a
     (mandatory_numbers before item) (λ n k. variables_at all before item earlier.expressions.now n known.sound known.expressions k)
     ∙ sym (typed_by_numbers before item)) in
     let whole = ap (λ w. filter (are_paired (active_pairs before)) (pairs_of w)) (ap (symbols_of all) kept ∙ typed) ∙ active_in_order before item known.sound in
-    subst (λ w. ArePairsRead all w pairs.items) whole (found all before known asked numbered)) c.active_among.ensures.pairs
+    subst (λ w. ArePairsRead all w pairs.items) whole (found all before known answers numbered)) c.active_pairs_among.ensures.pairs

@@ -1,6 +1,6 @@
 use Rattle.std.proofs.{Common.{ap, sym, subst, ◌++◌, flat_map, filter, drop, ◌∙◌, ◌+◌, ℕ, List, false, Contains, ◌↔◌}, lemmas.{Option.{get_or_from_slice_get}, Result.{on_ok_weaker}}}
 use Rattle.mm_machine.specs.{declared.symbol.NumberedSymbol.{NumberedSymbol}, Language.NumberedSymbols.{symbol_of, symbols_of, ArePairsRead}}
-use Rattle.mm_frame.specs.{Language.{Framing.{active_pairs}, Answering.{are_paired}}, Code.{KeptPlaces.{later_places_at, pair_at}, KeptPairTable.{row_at}}}
+use Rattle.mm_frame.specs.{Language.{Framing.{active_pairs}, Answering.{are_paired}}, Code.{KeptPlaces.{later_places_at, pair_at}, KeptDisjointRows.{row_at}}}
 use Rattle.mm_frame.proofs.lemmas.pairs.{ActivePairLemmas.{pairs_with}, PlaceLemmas.{Searches, partners_added, reads_earlier}}
 use Rattle.mm_frame.proofs.partners.add_partners.Goals as goal
 

@@ -8,7 +8,7 @@ returns c = λ all. record {
     kept = subst (AreRows (TellsFrame all) []) (sym c.in_ok-frames.ensures.0) (rows_none (TellsFrame all));
     reaches = subst (AreRows TellsReach []) (sym c.in_ok-frames.ensures.1) (rows_none TellsReach);
   };
-  made = c.in_ok-pair_lists.ensures all;
+  by_count = c.in_ok-pair_lists.ensures all;
   pair_numbers = subst (AreRows (TellsPairs all c.in_ok-pair_lists.pair_lists) []) (sym c.in_ok-pair_numbers.ensures) (rows_none (TellsPairs all c.in_ok-pair_lists.pair_lists));
   room = c.new.ensures all;
 }

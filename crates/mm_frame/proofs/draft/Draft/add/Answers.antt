@@ -4,7 +4,7 @@ use Rattle.mm_frame.{specs.{Language.Sound.{sound_items}, Code.Numbers.{AreNameN
 use Rattle.mm_frame.proofs.draft.Draft.add.Goals as goal
 
 pub returns : goal.returns
-returns c = on_ok_weaker c.follow.result (λ follows all said d told numbers kept.
+returns c = on_ok_weaker c.add_item.result (λ follows all said d told numbers kept.
     let item = c.args.statement.now in
     let next = c.next-item.ensures in
     let none = sym next.sound in (
@@ -17,4 +17,4 @@ returns c = on_ok_weaker c.follow.result (λ follows all said d told numbers kep
             symbols = record { symbols = kept.read (none ∙ parts.0) parts.2; numbered = kept.numbered };
           })
           d.1,
-    )) c.follow.ensures
+    )) c.add_item.ensures

@@ -12,5 +12,5 @@ returns c = λ all distinct.
       rows = subst (AreRows IsLabelTold []) (sym c.in_ok-rows.ensures.none) (rows_none IsLabelTold);
       symbols = subst (AreSymbols all []) (sym none) (record { count = refl; numbered = λ n. All-nil (IsNumbered all); each = λ n item e t. cc });
       active = subst (λ (w : List (List NumberedSymbol)). AreActiveKept [] w c.new.result) (sym none) c.new.ensures;
-      pair_table = c.new-2.ensures all;
+      disjoint_rows = c.new-2.ensures all;
     }

@@ -1,6 +1,0 @@
-use Rattle.std.proofs.Common.{take}
-use Rattle.mm_frame.specs.Code.KeptPairTable.{AreOnce, PutsAll}
-use Rattle.mm_frame.proofs.paired.PairTable.add.Given as goal
-
-abbrev pub invariant-loop-k : goal.invariant-loop-k
-invariant-loop-k l = AreOnce l.names → PutsAll l.initial.self l.blocks (take l.k l.names) l.number l.self
