@@ -106,7 +106,11 @@ def verify(program):
         whole, status = place.run(str(CI / "verify"), str(place.path / "db/faults.mm"))
         assert status == 1 and whole == straight.replace("faults.mm", str(place.path / "db/faults.mm"))
         assert place.run(str(CI / "verify"), "db/none.mm") == ("mmkeep: db/none.mm: cannot be read\n", 2)
-        assert place.run(str(CI / "verify"), "none/none.mm")[1] != 0
+        assert place.run(str(CI / "verify"), "none/none.mm") == ("mmkeep: none/none.mm: cannot be read\n", 2)
+        # What `cd` would look for elsewhere is looked for here.
+        (place.path / "else/db").mkdir(parents=True)
+        (place.path / "else/db/faults.mm").write_text("$c a $.\n")
+        assert place.run(str(CI / "verify"), "db/faults.mm", CDPATH=str(place.path / "else"))[0].startswith("fault db/faults.mm:3:4 F02 $c\n")
         assert place.run(str(CI / "verify"))[1] == 3 and place.run(str(CI / "verify"), "a.mm", MMKEEP="/nowhere/mmkeep")[1] == 3
         (place.path / "a & b").mkdir()
         (place.path / "a & b" / "x y.mm").write_text("$c a a $.\n")
@@ -201,6 +205,16 @@ def hook(program):
         assert git("commit", "-qm", "part")[1] == 1
         git("config", "mmkeep.top", "top.mm")
         assert git("commit", "-qm", "part")[1] == 0, place.told
+        # A part of any name, and a program by a path from here.
+        (place.path / "top.mm").write_text("$[ db/clean.mm $]\n$[ part.inc $]\n")
+        git("mv", "part.mm", "part.inc")
+        git("add", "top.mm")
+        os.symlink(program, place.path / "keep")
+        assert git("commit", "-qm", "renamed", MMKEEP="./keep")[1] == 0, place.told
+        git("mv", "part.inc", "part.mm")
+        (place.path / "top.mm").write_text("$[ db/clean.mm $]\n$[ part.mm $]\n")
+        git("add", "top.mm")
+        assert git("commit", "-qm", "renamed", MMKEEP="./keep")[1] == 0, place.told
         told, status = git("commit", "-qm", "lost", "--allow-empty", MMKEEP="/nowhere/mmkeep")
         (place.path / "part.mm").write_text("t8 $p wff p $= wp $.\n")
         git("add", "part.mm")
@@ -235,7 +249,7 @@ def picture(program):
 
 def pages(program):
     """What docs/INSTALL.md and the pages of examples name is there."""
-    for page in (ROOT / "docs/INSTALL.md", CLIENTS / "editor/README.md", CI / "README.md", CLIENTS / "python/README.md"):
+    for page in (ROOT / "docs/INSTALL.md", EXAMPLES / "README.md", ROOT / "SECURITY.md", CLIENTS / "editor/README.md", CI / "README.md", CLIENTS / "python/README.md"):
         for name in re.findall(r"`((?:\.\./|examples/|clients/|docs/|tests/|bench/|crates/)[\w./-]+)`", page.read_text()):
             path = page.parent / name if name.startswith("../") else ROOT / name
             assert path.exists() or name.startswith("crates/mmkeep/out"), f"{page.name}: {name}"
