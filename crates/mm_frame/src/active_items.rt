@@ -38,6 +38,7 @@ fn is_essential(kind: ItemKind) -> bool
     matches!(kind, ItemKind::Essential)
 }
 
+/// Whether items of this kind are `$d`.
 pub fn is_disjoint(kind: ItemKind) -> bool
     ensures { result ≡ meant.is_kind meant.Disjoint (kind_of kind) }
 {

@@ -1,4 +1,4 @@
-//! What the items so far declare, found by hash.
+//! What the items so far declare: names by their numbers, labels by hash.
 
 ghost use Rattle.std.specs.Prelude.{◌≡◌, ◌<◌, ◌++◌, ◌∷◌, ℕ, IfOk, OnOk, List, [], None, Some, true, length, nat_eq, option_to_list, if◌then◌else◌, slice_index_or};
 ghost use Rattle.mm_frame.specs.{Language.Scope.{constants}, Code.{KeptScope.{uses_numbers}, Numbers.{IsNameNumber, AreNameNumbers}}};

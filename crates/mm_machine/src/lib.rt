@@ -3,7 +3,7 @@
 //! An expression is a list of symbols. A frame is what citing an assertion needs: its expression, its mandatory hypotheses,
 //! and its mandatory pairs. The labels of a proof derive an expression (the Metamath book, section 4.2). The machine runs the
 //! steps of a proof over symbols of one type: by name, or by the numbers of names. `run` says what they come to. No code here
-//! reads a file or the words of a proof. The spots, and the numbers P01 to P06, are for crates that do.
+//! reads a file or the words of a proof. The spots, and the numbers P01 to P06, P14 and P15, are for crates that do.
 #![tactic(auto)]
 
 mod active;

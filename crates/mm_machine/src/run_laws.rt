@@ -4,7 +4,7 @@ ghost use Rattle.mm_machine.specs.Language.RunLaws.{PartsAreRun, SureByCounting}
 
 /// Which steps are run: all of them, or those before the first unknown one.
 ///
-/// For a check of `mm_verdict`, which counts the steps that are done.
+/// It shows what the definitions mean; no code calls on it.
 pub fn parts_are_run()
     ensures { PartsAreRun }
 {}

@@ -1,14 +1,14 @@
 //! What stays of an old base in a new one.
 
-ghost use Rattle.std.specs.Prelude.{◌≡◌, ◌↔◌, ◌+◌, ◌<◌, ℕ, true, Some, IfOk, IsTrue, OnOk};
-ghost use Rattle.mm_frame.specs.Language.{Base.{BaseView, is_shown_at}, Answering.{BaseAnswers, IsBase, IsBaseBy}, Resolving.{IsCarrier}};
+ghost use Rattle.std.specs.Prelude.{◌≡◌, ◌↔◌, ◌||◌, ◌+◌, ◌<◌, ℕ, true, Some, IfOk, IsTrue, OnOk};
+ghost use Rattle.mm_frame.specs.Language.{Base.{BaseView, is_shown_at}, Answering.{BaseAnswers, IsBaseBy}};
 ghost use Rattle.mm_proof.specs.Code.{InStep.{AreOrdinalsOf, HasLevel, IsStepAt, MeanOne, changed_behind}, KeptMarks.{OfBases, AreCompared, AreHypothesisMarks, IsHypothesisMark, IsOneHypothesis, kept_mark}};
 ghost use Rattle.mm_proof.specs.Language.BaseMarks.{AreMarks, HaveOneLabel, IsMark, KeepsLabels, mark_at};
 
 use crate::compared::Compared;
 use crate::mark::{Mark, NO_MARK};
 use crate::ordinals::{Ordinals, end_alike, in_full_width, is_labelled};
-use mm_frame::{Base, Names, has_own_labels, labels_mean, same_expression};
+use mm_frame::{Base, Names, labels_mean, same_expression};
 use mm_machine::narrow;
 use std::alloc::{AllocError, Global};
 use std::marker::Model;
@@ -45,34 +45,12 @@ fn same_hypothesis(old: &Base, i: usize, new: &Base, j: usize) -> bool
         && same_expression(old, i, new, j)
 }
 
-/// Whether an item of a base is sound and has this label.
-fn has_label(base: &Base, i: usize, label: &[u8]) -> bool
-    ensures { (view : BaseView) → IsBase view base.now → IsTrue result → IsCarrier view label.now i }
-{
-    match base.label(i) {
-        Some(own) => own == label && is_labelled(base, i),
-        None => false,
-    }
-}
-
-/// The sound item of a base that has this label. It is looked up if it is not the one that is expected.
-fn find_expected(base: &Base, label: &[u8], expected: usize) -> Option<usize>
-    ensures { (view : BaseView) (i : ℕ) → IsBase view base.now → (result ≡ Some i) ↔ IsCarrier view label.now i }
-{
-    has_own_labels(); // A law: two sound items with one label are one.
-    if has_label(base, expected, label) {
-        Some(expected)
-    } else {
-        base.find(label)
-    }
-}
-
 /// The sound item of the old base that has the label of the item `j` of the new one, which has to be sound, too.
-fn old_of(old: &Base, expected: usize, new: &Base, j: usize) -> Option<usize>
+fn old_of(old: &Base, new: &Base, j: usize) -> Option<usize>
     ensures { OfBases old.now new.now (λ base copy. (i : ℕ) → (result ≡ Some i) ↔ HaveOneLabel base copy i j) }
 {
     new.expression(j)?;
-    find_expected(old, new.label(j)?, expected)
+    old.find(new.label(j)?)
 }
 
 /// What stays of the item with this number, by the marks of those before it.
@@ -81,7 +59,6 @@ fn mark_of(
     new: &Base,
     j: usize,
     compared: &mut Compared,
-    expected: usize,
     marks: &[Mark],
 ) -> Result<Mark, AllocError>
     requires compared { AreCompared old.now new.now compared.old }
@@ -90,7 +67,7 @@ fn mark_of(
     ensures mark { IfOk result (λ mark. OfBases old.now new.now (λ base copy. IsMark base copy j (kept_mark mark))) }
     ensures kept { IfOk result (IsHypothesisMark old.now new.now j) }
 {
-    let Some(i) = old_of(old, expected, new, j) else {
+    let Some(i) = old_of(old, new, j) else {
         return Ok(NO_MARK);
     };
     let frame = compared.same_frame(old, i, new, j, marks)?;
@@ -127,19 +104,6 @@ fn is_alike(old: &Base, new: &Base, j: usize, ordinals: &Ordinals, mark: Mark) -
     }
 }
 
-/// The first labelled item of a base after the one that was found; else the one that was expected.
-fn next_expected(base: &Base, found: Option<usize>, expected: usize) -> usize {
-    let Some(i) = found else {
-        return expected;
-    };
-    for n in i..base.count() {
-        if n > i && is_labelled(base, n) {
-            return n;
-        }
-    }
-    base.count()
-}
-
 /// Two bases, and the ordinals of their items.
 #[derive(Clone, Copy)]
 struct TwoBases<'a> {
@@ -156,16 +120,23 @@ struct Step {
     in_step: bool,
     /// Whether the item before is to be listed as changed.
     changed: bool,
-    /// The item of the old base that is tried first.
-    expected: usize,
 }
 
 /// What is known before the first item is marked.
 const FIRST_STEP: Step = Step {
     in_step: true,
     changed: false,
-    expected: 0,
 };
+
+/// What is known behind an item that is alike, or listed as changed, or neither.
+fn step_behind(alike: bool, changed: bool) -> Step
+    ensures { (result.in_step ≡ (alike || changed)) × (result.changed ≡ changed) }
+{
+    Step {
+        in_step: alike || changed,
+        changed,
+    }
+}
 
 /// The mark of an item, by those of the items before it, of which these are listed as changed; and what is known before
 /// the next one is marked.
@@ -190,15 +161,11 @@ fn marked(
 {
     labels_mean(); // A law: a label is that of a sound item before, or means nothing.
     let TwoBases { old, new, ordinals } = bases;
-    let mark = mark_of(old, new, j, compared, step.expected, marks)?;
+    let mark = mark_of(old, new, j, compared, marks)?;
     let placed = step.in_step && keeps_place(new, j, ordinals, mark);
     let alike = placed && is_alike(old, new, j, ordinals, mark);
     let here = placed && !alike && changed.len() < MOST_CHANGED;
-    let next = Step {
-        in_step: alike || here,
-        changed: here,
-        expected: next_expected(old, in_full_width(mark.old), step.expected),
-    };
+    let next = step_behind(alike, here);
     let mark = Mark {
         in_step: placed,
         ..mark

@@ -56,7 +56,7 @@ pub enum TextError {
     /// The text has this fault, and it is its first.
     #[error("{0}")]
     Fault(TextFault),
-    /// There was not enough memory for the words. It says nothing of the text.
+    /// There was not enough memory for the words or the pieces. It says nothing of the text.
     #[error("out of memory")]
     Memory,
 }

@@ -44,7 +44,7 @@ pub fn has_verdict_at()
 /// Proved is the verdict on the proof of an item exactly when it decodes, no step is unknown, and its expanded labels
 /// derive the statement.
 ///
-/// It shows what the definitions mean; no code calls on it.
+/// For sessions: what is reported as Proved is derived by labels.
 pub fn proved_is_derived_at()
     ensures { ProvedIsDerivedAt }
 {

@@ -19,5 +19,5 @@ returns c names base copy f g i =
     let j = c.args.j in
     let shown = some_shown (is_shown_at copy j) (expression (before copy j) (said_at copy j)) _ (c.in_ok-expression.ensures.symbols names copy g) in
     let both = one_label base copy i j c.in_ok-label.field-0.now shown (sym (c.in_ok-label.ensures copy (names, g))) in
-    let found = c.find_expected.ensures base i (names, f) in
+    let found = c.find.ensures base i (names, f) in
     (λ e. both.0 (found.0 e), λ h. found.1 (both.1 h))
