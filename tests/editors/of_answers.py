@@ -114,6 +114,12 @@ def known(program):
         assert "step 3, `ae`, is wrong" in told and "no $d keeps p and q apart" in told and "`ae` **axiom**" in told, told
         assert "\nwff ( p -> ( p -> p ) )\n" in client.at("hover", "a.mm", "  B $.", 2)["contents"]["value"]
         assert "`mp` **axiom**" in client.at("hover", "a.mm", "( mp )", 2)["contents"]["value"]
+        # On each byte of a word of a normal proof, and right after it, its own step; on a word of a comment there, none.
+        client.replace("a.mm", "wp wq ae", "wp $( A wq. wq $)\n  wq  ae")
+        for word, step in (("wp $(", "step 1, `wp`, leaves"), ("wq  ae", "step 2, `wq`, leaves"), ("ae $.", "step 3, `ae`, is wrong")):
+            told = [client.at("hover", "a.mm", word, at)["contents"]["value"] for at in range(3)]
+            assert all(each.startswith(step) for each in told), told
+        assert client.at("hover", "a.mm", "wq $)")["contents"]["value"].startswith("`wq` hypothesis") and client.at("hover", "a.mm", "A wq.") is None
         assert client.at("hover", "a.mm", "-> ( )") is None
 
 
@@ -146,16 +152,78 @@ def offered(program):
         folds = sorted((each["startLine"], each["endLine"], each["kind"]) for each in client.ask("textDocument/foldingRange", where))
         assert folds == [(6, 9, "region"), (7, 8, "comment"), (11, 14, "region"), (13, 14, "region"), (16, 17, "region")], folds
         lenses = [(each["range"]["start"]["line"], each["command"]["title"]) for each in client.ask("textDocument/codeLens", where)]
-        assert lenses == [(5, "used by 1"), (9, "used by 1"), (10, "used by 1"), (13, "used by 0"), (15, "used by 0"), (16, "used by 0")], lenses
+        assert lenses == [(row, f"named by {told}") for row, told in ((5, "1 proof"), (9, "1 proof"), (10, "1 proof"), (13, "0 proofs"), (15, "0 proofs"), (16, "0 proofs"))], lenses
         span = {"start": {"line": 9, "character": 0}, "end": {"line": 11, "character": 0}}
         hints = [(each["position"], each["label"]) for each in client.ask("textDocument/inlayHint", {**where, "range": span})]
-        assert hints == [({"line": 9, "character": 4}, " used by 1"), ({"line": 10, "character": 15}, " used by 1")], hints
+        assert hints == [({"line": 9, "character": 4}, " named by 1 proof"), ({"line": 10, "character": 15}, " named by 1 proof")], hints
+        # A proof that lists a label twice, or at fault, and does not use it, names it once.
+        client.replace("a.mm", "x1 $p", "z1 $p |- z $= ( mp ae mp ) A $. z1 $p wff p $= ( mp mp ) A $. x1 $p")
+        lenses = {each["range"]["start"]["line"]: each["command"]["title"] for each in client.ask("textDocument/codeLens", where)}
+        assert (lenses[9], lenses[10]) == ("named by 3 proofs", "named by 2 proofs"), lenses
         legend = able["semanticTokensProvider"]["legend"]["tokenTypes"]
         words = spelled(client.texts["a.mm"], client.ask("textDocument/semanticTokens/full", where)["data"], legend)
         for word, kind in [("$(", "comment"), ("logic.", "comment"), ("$c", "keyword"), ("wi", "function"), ("->", "operator"), ("p", "variable"), ("$=", "keyword"), ("mp", "function"), ("ABCDE", None)]:
             assert (word, kind) in words or kind is None and word not in dict(words), (word, kind)
         part = client.ask("textDocument/semanticTokens/range", {**where, "range": span})["data"]
         assert part and part[0] == 9 and len(part) < len(words) * 5, part
+
+
+SCOPES = """$c wff |- $. $v p q $.
+$( ${ $) wp $f wff p $. $( ${ $a $= $) wq $f wff q $.
+$( ${ $) we $e |- p $.
+$[ b.mm $]
+w0 $a wff p $.
+${ wh $e |- p $.
+  ${ wi $e |- q $. wj $p |- q $= wi $. $}
+  wk $e |- q $. wl $p |- q $= wk $. wm $p |- q $= wk $. $( ${ $)
+$}
+wn $p |- p $= we $.
+$[ c.mm $]
+wo $p |- p $= we $.
+"""
+
+
+def scopes(program):
+    """A proof is offered what it may name: assertions before it in the order of reading, and hypotheses that are active at it."""
+    files = {"a.mm": SCOPES, "b.mm": "wb $a wff p $.\n${ wx $e |- p $. wy $a |- p $. $}\n", "c.mm": "wc $a wff p $.\nwd $p |- p $= wc $.\n"}
+    first, outer = ["wb", "wy", "w0"], ["wp", "wq", "we"]
+    wanted = {
+        "wj $p": [*first, *outer, "wh", "wi"],
+        "wl $p": [*first, *outer, "wh", "wj", "wk"],
+        "wm $p": [*first, *outer, "wh", "wj", "wk", "wl"],
+        "wn $p": [*first, *outer, "wj", "wl", "wm"],
+        "$[ c.mm": [*first, *outer, "wj", "wl", "wm", "wn"],
+        "wd $p": [*first, *outer, "wj", "wl", "wm", "wn", "wc"],
+        "wo $p": [*first, *outer, "wj", "wl", "wm", "wn", "wc", "wd"],
+    }
+    with Folder(program, {**files, "mmkeep.json": '{"top": "a.mm"}'}) as client:
+        client.open("a.mm")
+        client.open("c.mm")
+
+        def offers(name, text, labels):
+            """Asserts what is offered in the first proof from a text on."""
+            at = client.texts[name].index("$= w", client.texts[name].index(text)) + 4
+            found = [each["label"] for each in client.complete(name, at)["items"]]
+            assert sorted(found) == sorted(labels), (text, found)
+
+        for text, labels in wanted.items():
+            name = "c.mm" if text == "wd $p" else "a.mm"
+            # In the theorem as it stands, in another one before it, and in one that is half written.
+            for other in ("", "new $p |- p $= w $. ", "new $p |- p $= w "):
+                if other or text != "$[ c.mm":
+                    client.replace(name, text, other + text)
+                    offers(name, other + text, labels)
+                    client.replace(name, other + text, text)
+        client.diagnostics("a.mm")
+        # While a text has its fault somewhere before, it is the same behind that; a hypothesis at fault is not active.
+        client.replace("a.mm", "w0 $a wff p $.", "w0 $a wff p")
+        for text in ("wm $p", "wo $p"):
+            offers("a.mm", text, wanted[text])
+        client.replace("a.mm", "w0 $a wff p", "w0 $a wff p $.")
+        client.replace("a.mm", "wk $e |- q $.", "wk $e |- none $.")
+        offers("a.mm", "wm $p", {*wanted["wm $p"]} - {"wk"})
+        told = client.at("hover", "a.mm", "wn $p")["contents"]["value"]
+        assert "wp $f wff p $.\nwe $e |- p $.\nwn $p |- p $." in told, told
 
 
 def spelled(text, data, legend):
@@ -170,7 +238,7 @@ def spelled(text, data, legend):
 def rewritten(program):
     """A label is renamed in all files at once, or not at all; the `$d` that a proof lacks is added."""
     files = {"a.mm": "$[ b.mm $]\n" + BOOK.replace("x1 $p |- ( p -> q ) $= wp wq ae $.\n", ""), "b.mm": "$( first $)\n"}
-    files["c.mm"] = "$[ a.mm $]\nz1 $p wff ( p -> q ) $= wp wq wi $.\nz2 $p wff ( p -> p ) $= ( wi ) AAB $.\n"
+    files["c.mm"] = "$( It was $[ old.mm $] once. $) $[ a.mm $]\nz1 $p wff ( p -> q ) $= wp wq wi $.\nz2 $p wff ( p -> p ) $= ( wi ) AAB $.\n"
     with Folder(program, files) as client:
         client.open("c.mm")
         assert client.diagnostics("c.mm") == []
@@ -275,4 +343,4 @@ def bad_parameters(program):
         assert client.at("hover", "a.mm", "mp $a")
 
 
-TESTS = [asked, told_more, causes, known, offered, rewritten, protocol, bad_parameters]
+TESTS = [asked, told_more, causes, known, offered, scopes, rewritten, protocol, bad_parameters]

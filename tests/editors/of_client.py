@@ -222,7 +222,12 @@ def strict(program):
             for text in (b"", b" \n\t"):
                 raises(ValueError, lambda: session.replace("a.mm", 0, text))
             for text in ("$c k $.", None, 7):
-                raises(ValueError, lambda: session.insert("a.mm", 0, text))
+                for call in (session.insert, session.replace):
+                    raises(ValueError, lambda: call("a.mm", 0, text))
+                raises(ValueError, lambda: session.fault("a.mm", text))
+            # Of a file that was not loaded no text is judged.
+            for text in (b"$c k $.", b"$c k", b""):
+                raises(LookupError, lambda: session.fault("b.mm", text))
             assert session.report().clean() and session.count("a.mm") == 7 and session.verdict("th").kind == "proved"
 
 

@@ -1,4 +1,5 @@
 """Tests of the programs of clients/python: a report for people, a watch, a picture."""
+import itertools
 import os
 import pathlib
 import queue
@@ -27,20 +28,23 @@ STEPS = [
     ("t $p wff ( ( p -> p ) -> p ) $= ( wi ) AABZAAB $.", "P14", ["2 entries are left"]),
     ("${ $d p q $. d $a wff ( p q ) $. $} t $p wff p $= wp wp d $.", "P10", ["both have p"]),
     ("${ $d p q $. d $a wff ( p q ) $. $} t $p wff p $= wp wq d $.", "P11", ["no $d keeps p and q apart"]),
+    ("$( Not ${ or $= $) $d p q $. ${ $d p q r $. d $a wff ( p q r ) $. $} t $p wff p $= wp wq wr d $.", "P11", ["to add: $d p r $. $d q r $."]),
 ]
+# The same database with words in its comments that mean nothing there.
+WORDS = LOGIC.replace(b"wp $f", b"$( Once $a or $= was here. $) wp $f").replace(b"wq $f", b"$( And ${ $) wq $f")
 
 
 def in_words(program):
     """A report is explained: faults first, what they make wrong counted, and what a step expected and got."""
     with tempfile.TemporaryDirectory() as folder:
         file = pathlib.Path(folder, "a.mm")
-        for proof, number, lines in STEPS:
-            file.write_bytes(LOGIC + proof.encode() + b"\n")
+        for logic, (proof, number, lines) in itertools.product((LOGIC, WORDS), STEPS):
+            file.write_bytes(logic + b"$v r $. wr $f wff r $.\n" + proof.encode() + b"\n")
             report = mmkeep.verify("a.mm", folder, program)
             told = mmkeep.explain(report, folder, "a.mm")
             assert number in told[0] and mmkeep.SENTENCES[number] in told[0], told
             shown = [line.strip() for line in told]
-            assert all(any(line in each for each in shown) for line in lines), told
+            assert all(any(each.endswith(line) for each in shown) for line in lines), told
             assert told[2].index("^") - told[1].index("|") - 2 == report.findings[0].place.column - 1, told
         file.write_bytes(LOGIC.replace(b"mp $a |- q $.", b"mp $a |- z $.") + b"${ k $p |- p $= ( mp ) A $. $}\n")
         told = mmkeep.explain(mmkeep.verify("a.mm", folder, program), folder, "a.mm")
@@ -197,13 +201,14 @@ class Watch:
         assert kind or self.child.stderr.read() == b""
 
     def until(self, text):
-        """Waits for a line with a text."""
+        """Waits for a line with a text. Answers the lines up to it."""
         end, told = time.monotonic() + 30, []
         while not any(text in line for line in told):
             try:
                 told.append(self.lines.get(timeout=max(0.1, end - time.monotonic())))
             except queue.Empty:
                 raise AssertionError(f"no {text!r}, but {told}") from None
+        return told
 
 
 def watch_of(program, folder, name):
@@ -225,9 +230,22 @@ def watched(program):
             watch.until("nothing is wrong any more")
             other.write_bytes(b"$c k $. $c k $.\n")
             watch.until("broke k: b.mm:1:12 F04")
-            other.write_bytes(b"$c k $.\n$c l")
-            watch.until("b.mm:2:1 T07")
+            # Of findings that are alike, those at a new place are new.
+            other.write_bytes(b"$c k $. $c k $.\n$c k $.\n")
+            told = watch.until("broke k: b.mm:2:4 F04")
+            other.write_bytes(b"$c k $. $c k $.\n$c l\n")
+            told += watch.until("b.mm:2:1 T07")
+            assert not any("broke k: b.mm:1:12" in line for line in told), told
+            other.write_bytes(b"$c k $. $c k $.\n$c k $.\n")
+            watch.until("the text has no fault any more")
+            # Where nothing changed, nothing is told.
+            other.touch()
+            time.sleep(1)
+            other.write_bytes(b"$c k $. $c k $.\n$c k $.\n$( A note. $)\n")
+            assert len(watch.until("nothing but comments behind the last statement changed")) == 1
             other.write_bytes(b"$c k $.\n$c l $.\n")
+            told = watch.until("mended k F04")
+            assert len(told) == 2, told
             watch.until("mended k F04")
             file.write_bytes(LOGIC)
             watch.until("a.mm: 1 theorems, 1 proved (")
@@ -291,6 +309,11 @@ def bad_reports(program):
             full = open("/dev/full", "wb")
             ends_well(words, folder, 1, "No space left on device", input=clean * 9, stdout=full)
             full.close()
+            ends_well(words, folder, 1, f"{words[0]}: standard output is closed", input=clean, preexec_fn=lambda: os.close(1))
+        # What no XML may hold in the name of a file.
+        shown = ends_well(["mmkeep-convert", "--junit"], folder, 0, "", input=b"wrong th a\x01\xff.mm:4:67 P09\n" + clean)
+        [failure] = xml.etree.ElementTree.fromstring(shown).iter("failure")
+        assert failure.text == "a??.mm:4:67", shown
         for place in (b"a.mm:0:0", b"a.mm:4:67", b"a.mm:99999:99999", b"gone.mm:1:1", b"dir:1:1", b"pipe:1:1", b"\xff.mm:1:1", b"a\x1b[31m.mm:1:1", b":1:1"):
             lines = [line % place for line in (b"fault %b F06 \xff", b"fault %b F10 x", b"wrong th %b P09", b"wrong \xe9 %b P11", b"wrong th %b P01", b"incomplete th %b", b"mmkeep: %b T03", b"mmkeep: %b T08")]
             shown = ends_well(["mmkeep-explain", "--all", "a.mm"], folder, 1, "", input=b"\n".join([*lines, clean]))
@@ -318,6 +341,9 @@ def bad_words(program):
         full = open("/dev/full", "wb")
         ends_well(["mmkeep-graph", "a.mm", "th"], folder, 1, "No space left on device", settings=here, stdout=full)
         full.close()
+        for words in (["mmkeep-graph", "a.mm", "th"], ["mmkeep-watch", "a.mm"], ["mmkeep-lsp"]):
+            ends_well(words, folder, 1, f"{words[0]}: standard output is closed", settings=here, preexec_fn=lambda: os.close(1))
+        ends_well(["mmkeep-lsp"], folder, 1, "", preexec_fn=lambda: os.close(0))
         for words in (["mmkeep-watch"], ["mmkeep-watch", "--help"], ["mmkeep-graph", "a.mm"], ["mmkeep-convert"], ["mmkeep-convert", "--xml"], ["mmkeep-lsp", "--none"]):
             ends_well(words, folder, 1, "usage: ", settings=here)
 

@@ -3,7 +3,7 @@
     Session(top)         holds `mmkeep session`, with a method for each command of docs/SCRIPTS.md
     verify(top)          runs `mmkeep verify`, and answers the report as values
     pieces(text)         cuts a text as docs/LANGUAGE.md says; cut(text) answers the tail too
-    edits(file, a, b)    the fewest edits from one list of pieces to another
+    edits(file, a, b)    few edits from one list of pieces to another
     read_report(text)    the values of a report that was written to a file
     explain(report)      a report as text for people; also `mmkeep verify TOP 2>&1 | mmkeep-explain TOP`
 

@@ -128,7 +128,7 @@ class Answers(Streams):
         return features.folds(document) if document else []
 
     def lenses(self, params: dict) -> list:
-        """How many theorems use each assertion of a file."""
+        """How many proofs name each assertion of a file."""
         base, document = self.placed(params)
         return features.lenses(base, document) if base else []
 

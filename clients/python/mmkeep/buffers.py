@@ -310,6 +310,13 @@ class Held:
             return min(max(at - self.length + length + self.fed(), 0), length)
         return min(self.before, length)
 
+    def piece_at(self, at: int) -> int:
+        """The piece of the session that has a byte of the buffer, or its tail; of what changed, the first one that may be another now."""
+        if at > self.before:
+            old = at - self.document.text.length - self.fed() + self.length
+            at = old if old >= self.length - self.behind else self.before
+        return bisect.bisect_right(self.starts, at) - 1
+
     def lines(self) -> list:
         """How many lines end before each piece."""
         pieces = self.load()

@@ -17,14 +17,26 @@ from .faults import INCOMPLETE, SENTENCES
 from .programs import given, guarded
 from .reports import COUNTS, Finding, read_finding
 
-# Where each number is explained: at what MMKEEP_HELP names, or on the page of faults that is near, in a clone or as it is installed.
-PAGES = [pathlib.Path(__file__).resolve().parents[3] / "docs/FAULTS.md", pathlib.Path("/usr/share/doc/mmkeep/FAULTS.md")]
+# Where each number is explained: at what MMKEEP_HELP names, or on the page of faults: in a clone, where `make install` puts it, or
+# where Debian has it.
+HERE = pathlib.Path(__file__).resolve().parent
+FOLDERS = [HERE / "../../../docs", HERE / "../../doc/mmkeep", pathlib.Path("/usr/share/doc/mmkeep")]
+PAGES = [folder.resolve() / name for folder in FOLDERS for name in ("FAULTS.md", "FAULTS.md.gz")]
 HELP = os.environ.get("MMKEEP_HELP") or next((page.as_uri() for page in PAGES if page.exists()), None)
 
 
+def printable(text: str) -> str:
+    """A text without what no XML may hold, which is a question mark.
+
+    >>> printable("a\\x01.mm")
+    'a?.mm'
+    """
+    return "".join(letter if letter.isprintable() else "?" for letter in text)
+
+
 def quoted(text: str) -> str:
-    """A text as an attribute of XML; what no XML may hold is a question mark."""
-    return xml.sax.saxutils.quoteattr("".join(letter if letter.isprintable() else "?" for letter in text))
+    """A text as an attribute of XML."""
+    return xml.sax.saxutils.quoteattr(printable(text))
 
 
 def name_of(finding: Finding) -> str:
@@ -47,7 +59,7 @@ def junit(findings: list, counts: list, broken: list) -> Iterator[str]:
     yield f'<testsuite name="mmkeep" tests="{tests}" failures="{len(findings)}" errors="{len(lost)}">'
     for each in findings:
         yield f'  <testcase classname={quoted(each.place.file)} name={quoted(name_of(each))} file={quoted(each.place.file)} line="{each.place.line}">'
-        said = xml.sax.saxutils.escape(str(each.place))
+        said = xml.sax.saxutils.escape(printable(str(each.place)))
         yield f"    <failure type={quoted(number_of(each))} message={quoted(each.sentence())}>{said}</failure>"
         yield "  </testcase>"
     for line in lost:

@@ -74,6 +74,15 @@ def blank(text: bytes) -> bytes:
     return COMMENT.sub(lambda found: b" " * len(found[0]), text) if b"$(" in text else text
 
 
+def is_block(piece: bytes) -> bool:
+    """Whether a piece is a block: it has a `${` that is in no comment.
+
+    >>> is_block(b"$( ${ $) $v x $. "), is_block(b"$( a $) ${ $} ")
+    (False, True)
+    """
+    return b"${" in piece and b"${" in blank(piece)
+
+
 def labels(piece: bytes) -> list:
     """The labels of a piece, each with its kind (`a`, `e`, `f` or `p`) and its first byte.
 

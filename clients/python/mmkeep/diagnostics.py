@@ -7,7 +7,7 @@ from typing import TYPE_CHECKING, Iterable, Optional
 
 from .buffers import SPACES
 from .causes import Cause, causes
-from .cutting import labels
+from .cutting import blank, labels
 from .live import Live, Words
 from .machine import together
 from .reports import Finding
@@ -175,11 +175,11 @@ class Diagnostics:
         return {"uri": self.server.uri(held.path), "range": {"start": start, "end": end}}
 
     def statement(self, label: str) -> Optional[str]:
-        """The text of a statement up to its proof."""
+        """The text of a statement up to its proof, with spaces for comments."""
         found = self.labels().get(label)
         if not found:
             return None
-        text = self.files[found[0]].pieces[found[1]]
+        text = blank(self.files[found[0]].pieces[found[1]])
         end = min(at for at in (text.find(b"$.", found[3]) + 2, text.find(b"$=", found[3])) if at > 1)
         return text[found[3] : end].decode("latin-1").strip()
 

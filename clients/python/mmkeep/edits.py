@@ -61,9 +61,10 @@ class Replace(NamedTuple):
 
     def command(self) -> bytes:
         """The bytes of the command."""
+        text = with_text(self.text)
         if not self.text.strip(b" \t\n\f\r"):
             raise ValueError("a piece is not replaced by nothing: Delete takes it out")
-        return b"replace %b %b %b" % (word(self.file), number(self.at), with_text(self.text))
+        return b"replace %b %b %b" % (word(self.file), number(self.at), text)
 
 
 class Delete(NamedTuple):

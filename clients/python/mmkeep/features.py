@@ -13,17 +13,17 @@ from .buffers import units
 from .client import Refused
 from .cutting import COMMENT, blank
 from .machine import named
-from .sources import Statement, statements
+from .sources import Statement, active_after, statements
 
 if TYPE_CHECKING:
-    from .buffers import Document
+    from .buffers import Document, Held
     from .database import Base
     from .live import Live
 
 WORD = re.compile(rb"[^ \t\n\f\r]+")
 LABEL = re.compile(r"[A-Za-z0-9._-]+")
-# So many labels are offered at once; a file with more assertions gets no lenses.
-OFFERED, LENSES = 200, 3000
+# So many labels are offered at once; a file with more assertions gets no lenses. So many bytes of a piece are read at most for a completion.
+OFFERED, LENSES, NEAR = 200, 3000, 1 << 18
 KINDS = {"a": ("axiom", 14), "p": ("theorem", 12), "e": ("hypothesis", 13), "f": ("hypothesis", 13)}
 # The kinds of tokens: words of Metamath, and the variables of the first typecodes.
 TOKENS = ["keyword", "comment", "function", "operator", "variable", "parameter", "property", "type", "enumMember"]
@@ -118,19 +118,29 @@ def completion(base: Base, document: Document, position: dict) -> dict:
     text = blank(before)
     if not prefix or text.rfind(b"$=") < max(text.rfind(b"$."), text.rfind(b"${"), text.rfind(b"$}")):
         return {"isIncomplete": False, "items": []}
-    live, held = base.live(), next((held for held in base.files.values() if held.document is document), None)
-    own = bisect.bisect_right(held.starts, min(at, held.before)) - 1 if held and held.pieces else 0
-    found = []
-    for label, declared in live.declared.items():
-        if label.startswith(prefix) and not (declared.file == (held and held.name) and live.numbers[declared.piece] > own):
-            # A hypothesis of another block is not active.
-            if declared.kind in "ap" or live.numbers[declared.piece] == own or b"${" not in live.pieces[declared.piece][2]:
-                found.append((len(label), label, declared.kind))
-    found.sort()
+    held = next((held for held in base.files.values() if held.document is document), None)
+    found = sorted((len(label), label, kind) for label, kind in named_before(base, held, at, prefix).items()) if held else []
     start = document.text.position(*document.text.row(at - len(os.fsencode(prefix))))
     span = {"start": start, "end": position}
     items = [{"label": label, "kind": 3 if kind in "ap" else 6, "detail": KINDS[kind][0], "documentation": shown(base, label), "sortText": f"{length:04d}{label}", "textEdit": {"range": span, "newText": label}} for length, label, kind in found[:OFFERED]]
     return {"isIncomplete": len(found) > OFFERED, "items": items}
+
+
+def named_before(base: Base, held: Held, at: int, prefix: str) -> dict:
+    """The labels, with their kinds, that a proof with a byte of an open file may name: of assertions before it, and of hypotheses that are active at it.
+
+    What is before it in its piece is read from the buffer, for it may be half written; of very much, the end."""
+    live, piece = base.live(), held.piece_at(at)
+    start, number = held.now(held.starts[piece]), live.read_before[held.name][piece]
+    begin = max(start, at - NEAR)
+    faults = live.faults.get((held.name, piece), ()) if not held.dirty else ()
+    inside = statements(held.document.text.slice(begin, at), begin - start)
+    inside = [each for each in inside if not any(each.begin <= fault < each.end for fault in faults)]
+    named = [each for each in inside if each.kind in ("$a", "$p")]
+    named += [each for each in active_after(live.outer_before(number), inside) if each.kind in ("$e", "$f")]
+    found = {label: each.kind for label, each in live.declared.items() if label.startswith(prefix) and each.kind in "ap" and each.piece < number}
+    found.update((each.label, each.kind[1]) for each in named if each.label and each.label.startswith(prefix))
+    return found
 
 
 def shown(base: Base, label: str) -> str:
@@ -156,17 +166,17 @@ def document_symbols(base: Base, document: Document) -> list:
 
 
 def lenses(base: Base, document: Document) -> list:
-    """How many theorems use each assertion of a file, if these are not too many to be shown."""
+    """How many proofs name each assertion of a file, if these are not too many to be shown."""
     found, uses = [*assertions(base, document)], base.live().uses()
     if len(found) > LENSES:
         return []
-    return [{"range": span, "command": {"title": f"used by {uses[label]:,}", "command": ""}} for label, _, span in found]
+    return [{"range": span, "command": {"title": f"named by {counted(uses[label], 'proof')}", "command": ""}} for label, _, span in found]
 
 
 def inlays(base: Base, document: Document, span: dict) -> list:
     """The same behind each label in a part of a file."""
     uses, first, last = base.live().uses(), span["start"]["line"], span["end"]["line"]
-    return [{"position": where["end"], "label": f" used by {uses[label]:,}", "kind": 1} for label, _, where in assertions(base, document) if first <= where["start"]["line"] <= last]
+    return [{"position": where["end"], "label": f" named by {counted(uses[label], 'proof')}", "kind": 1} for label, _, where in assertions(base, document) if first <= where["start"]["line"] <= last]
 
 
 FOLDS = re.compile(rb"\$\((?=[ \t\n\f\r]).*?[ \t\n\f\r]\$\)(?=[ \t\n\f\r]|\Z)|\$[{}=.](?=[ \t\n\f\r]|\Z)", re.DOTALL)

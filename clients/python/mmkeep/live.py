@@ -1,12 +1,13 @@
 """What the language server knows of a database beside the findings: frames, steps of proofs, comments, and what is where."""
 from __future__ import annotations
 
+import collections
 import os
 import re
 import time
 from typing import TYPE_CHECKING, Iterable, Iterator, Optional
 
-from .cutting import COMMENT, blank, labels
+from .cutting import COMMENT, blank, is_block, labels
 from .machine import Done, Machine
 from .reports import Finding, Place
 from .sources import Declared, Reading, Statement, frame, lists_in, statements
@@ -25,6 +26,8 @@ class Live(Reading):
         # Statements at fault, by the number of their piece: the first byte of what is reported.
         self.faults: dict = {}
         self.numbers: dict = {}
+        # How many pieces are read before each piece of a file, and before its tail, by the name of the file.
+        self.read_before: dict = {}
         for place in faults:
             held = base.files.get(place.file)
             if held:
@@ -51,9 +54,13 @@ class Live(Reading):
     def cut(self, file: str) -> Iterator:
         """The pieces of a file, each as if it began at 0."""
         held = self.base.files.get(file)
+        before: list = []
+        self.read_before[file] = before
         for number, text in enumerate(held.load() if held else ()):
             self.numbers[len(self.pieces)] = number
+            before.append(len(self.pieces))
             yield 0, text
+        before.append(len(self.pieces))
 
     def parts(self, begin: int, text: bytes) -> tuple:
         """The labels and the outer statements of a piece."""
@@ -74,12 +81,12 @@ class Live(Reading):
     def lists(self) -> dict:
         """The labels that the proof of each theorem names; those of a piece that stayed are read once."""
         if self.named is None:
-            before, self.base.lists, self.named = self.base.lists, {}, {}
+            before, self.base.lists = self.base.lists, {}
+            self.named, self.used = {}, collections.Counter()
             for text in self.texts():
                 if b"$p" in text:
                     found = self.base.lists[text] = before.get(text) or [*lists_in(text)]
-                    self.named.update(found)
-            self.used = self.counted()
+                    self.count(found)
         return self.named
 
     def place(self, label: str) -> Optional[Place]:
@@ -120,12 +127,15 @@ class Live(Reading):
             return [], None, []
 
     def step_at(self, label: str, at: int) -> Optional[Done]:
-        """The step of a proof that has a byte of its piece: its number, its step, and the expression that it leaves."""
+        """The step of a proof that has a byte of its piece: its number, its step, and the expression that it leaves.
+
+        In a normal proof the byte is in the word of the step, or right after it."""
         try:
             machine = Machine(self, label)
+            is_normal = machine.statement.proof[0][0] != "("
             for done in machine.run():
-                if done.step.at >= at:
-                    return done
+                if done.step.at + (len(done.step.what) if is_normal else 0) >= at:
+                    return None if is_normal and done.step.at > at else done
         except (AttributeError, IndexError, KeyError, ValueError):
             pass
         return None
@@ -151,7 +161,7 @@ class Live(Reading):
         """The statements that declare symbols or type variables, in blocks too."""
         yield from self.outer
         for _, _, text in self.pieces:
-            if b"${" in text and (b"$f" in text or b"$v" in text):
+            if (b"$f" in text or b"$v" in text) and is_block(text):
                 yield from statements(text)
 
     def typecodes(self) -> dict:

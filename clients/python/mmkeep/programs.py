@@ -17,11 +17,12 @@ def guarded(main: Callable[[], int]) -> Callable[[], int]:
     def run() -> int:
         """Runs it, and answers its status."""
         try:
+            if sys.stdout is None:
+                ends(main, "standard output is closed")
             if isinstance(sys.stdout, io.TextIOWrapper):
                 sys.stdout.reconfigure(encoding="utf-8", errors="replace")
             status = main()
-            if sys.stdout:
-                sys.stdout.flush()
+            sys.stdout.flush()
             return status
         except KeyboardInterrupt:
             os._exit(130)
@@ -37,7 +38,8 @@ def guarded(main: Callable[[], int]) -> Callable[[], int]:
 
 def ends(main: Callable[[], int], why: str) -> NoReturn:
     """Ends a program with a sentence."""
-    print(f"{main.__module__.replace('.', '-')}: {why}", file=sys.stderr, flush=True)
+    if sys.stderr:
+        print(f"{main.__module__.replace('server', 'lsp').replace('.', '-')}: {why}", file=sys.stderr, flush=True)
     os._exit(1)
 
 

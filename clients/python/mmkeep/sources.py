@@ -15,12 +15,12 @@ import pathlib
 import re
 from typing import Callable, Iterable, Iterator, NamedTuple, Optional, Union
 
-from .cutting import SPACES, blank, ended, ends, labels
+from .cutting import blank, ended, ends, inclusions, is_block, labels
 from .reports import Place
 
 WORD = re.compile(rb"[^ \t\n\f\r]+")
 # A theorem from its keyword on: the words of a normal proof, or the list of a compressed one. Comments are blank.
-PROOF = re.compile(rb"\$p[ \t\n\f\r][^$]*\$=[ \t\n\f\r]+(\([ \t\n\f\r][^)]*|[^$]*)")
+PROOF = re.compile(rb"\$p[ \t\n\f\r][^$]*\$=[ \t\n\f\r]+(\([ \t\n\f\r][^)$]*|[^$]*)")
 
 
 def on_disk(path: Union[str, pathlib.Path]) -> Optional[bytes]:
@@ -44,13 +44,15 @@ class Statement:
 
 
 def statements(text: bytes, begin: int = 0) -> list:
-    """The statements of a piece without a fault, whose first byte is `begin`.
+    """The statements of a piece without a fault, whose first byte is `begin`; of another text, those that are finished.
 
-    >>> [(each.label, each.kind, each.symbols) for each in statements(b"${ h $e a b $. $}")]
+    >>> [(each.label, each.kind, each.symbols) for each in statements(b"x $a ${ h $e a b $. $}")]
     [(None, '${', []), ('h', '$e', ['a', 'b']), (None, '$}', [])]
     """
     words, found = [], []
     for each in WORD.finditer(blank(text)):
+        if each[0] in (b"${", b"$}"):
+            words = []
         words.append((os.fsdecode(each[0]), begin + each.start()))
         if words[-1][0] in ("$.", "$]", "${", "$}"):
             found.append(Statement(words))
@@ -210,7 +212,9 @@ class Reading:
 
     def parts(self, begin: int, text: bytes) -> tuple:
         """The labels of a piece, and its statements if it is no block and no assertion."""
-        return labels(text), [] if any(mark in text for mark in (b"$=", b"${", b"$a")) else statements(text, begin)
+        found = labels(text)
+        is_outer = all(kind in "ef" for _, kind, _ in found) and not is_block(text)
+        return found, statements(text, begin) if is_outer else []
 
     def is_at_fault(self, piece: int, statement: Statement) -> bool:
         """Whether a statement of a piece is at fault."""
@@ -232,17 +236,14 @@ class Reading:
         if found is None:
             return [], None
         _, begin, text = self.pieces[found.piece]
-        active, marks = self.outer[: bisect.bisect_left(self.outer_pieces, found.piece)], []
-        for each in statements(text, begin):
-            if each.label == label:
-                return active, each
-            if each.kind == "${":
-                marks.append(len(active))
-            elif each.kind == "$}":
-                del active[marks.pop() :]
-            elif not self.is_at_fault(found.piece, each):
-                active.append(each)
-        return active, None
+        several = statements(text, begin)
+        at = next((number for number, each in enumerate(several) if each.label == label), None)
+        sound = [each for each in several[:at] if not self.is_at_fault(found.piece, each)]
+        return active_after(self.outer_before(found.piece), sound), None if at is None else several[at]
+
+    def outer_before(self, piece: int) -> list:
+        """The sound statements before a piece that are in no block and no assertions."""
+        return self.outer[: bisect.bisect_left(self.outer_pieces, piece)]
 
     def frame(self, label: str) -> Optional[Frame]:
         """The frame of the assertion with a label, or nothing."""
@@ -254,16 +255,16 @@ class Reading:
     def lists(self) -> dict:
         """The labels that the proof of each theorem names, by the label of the theorem. They are read once."""
         if self.named is None:
-            self.named = {}
+            self.named, self.used = {}, collections.Counter()
             for text in self.texts():
-                for label, named in lists_in(text):
-                    self.named.setdefault(label, named)
-            self.used = self.counted()
+                self.count(lists_in(text))
         return self.named
 
-    def counted(self) -> collections.Counter:
-        """How many of the proofs that were read name each label."""
-        return collections.Counter(label for named in self.named.values() for label in named)
+    def count(self, proofs: Iterable[tuple]) -> None:
+        """Takes the labels of theorems, each with those that its proof names."""
+        for label, named in proofs:
+            self.named.setdefault(label, named)
+            self.used.update(named)
 
     def texts(self) -> Iterator:
         """The texts of the files."""
@@ -289,10 +290,25 @@ def lists_in(text: bytes) -> Iterator:
 
 
 def included(text: bytes) -> Optional[str]:
-    """The name of the file that a piece includes, if it is an inclusion."""
-    if b"$[" not in text or SPACES.sub(b"", blank(text[: text.find(b"$[") + 2])) != b"$[":
-        return None
-    return statements(text)[0].symbols[0]
+    """The name of the file that a piece includes, if it is an inclusion.
+
+    >>> included(b"$( once $[ a.mm $] $) $[ b.mm $] ")
+    'b.mm'
+    """
+    return next(iter(inclusions(text)), None)
+
+
+def active_after(active: list, several: Iterable[Statement]) -> list:
+    """The statements that are active after some more: of these, those whose block has not ended."""
+    marks, least = [], len(active)
+    for each in several:
+        if each.kind == "${":
+            marks.append(len(active))
+        elif each.kind == "$}":
+            del active[marks.pop() if marks else least :]
+        else:
+            active.append(each)
+    return active
 
 
 def pairs_of(active: list) -> set:

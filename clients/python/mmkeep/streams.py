@@ -1,6 +1,7 @@
 """The two streams of a server that speaks JSON-RPC, as the Language Server Protocol frames it."""
 from __future__ import annotations
 
+import io
 import itertools
 import json
 import queue
@@ -61,7 +62,7 @@ class Streams:
 
     def read(self) -> None:
         """Reads messages to the end of the input."""
-        stream = sys.stdin.buffer
+        stream = sys.stdin.buffer if sys.stdin else io.BytesIO()
         while True:
             length, line = None, stream.readline()
             while line not in (b"\r\n", b"\n", b""):

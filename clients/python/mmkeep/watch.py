@@ -41,13 +41,32 @@ def key(finding: Finding) -> tuple:
     return finding.kind, finding.label or finding.word, finding.number
 
 
+def more(findings: list, others: list) -> list:
+    """The findings that are not among others. Of those that are alike, it is as many as there are more, first those whose place is new.
+
+    >>> from mmkeep.reports import Place
+    >>> old, new = (Finding("fault", None, Place("a.mm", line, 1), "F08", "b") for line in (7, 3))
+    >>> more([new, old], [old]) == [new] == more([old, new], [old]), more([old], [old, new])
+    (True, [])
+    """
+    left = collections.Counter(map(key, findings)) - collections.Counter(map(key, others))
+    places = {(key(each), each.place) for each in others}
+    found: list = []
+    for at in sorted(range(len(findings)), key=lambda at: (key(findings[at]), findings[at].place) in places) if left else ():
+        if left[key(findings[at])] > 0:
+            left[key(findings[at])] -= 1
+            found.append(at)
+    return [findings[at] for at in sorted(found)]
+
+
 class Watch:
-    """A database that is followed: its files, with the stamps and the pieces of what the session has of them."""
+    """A database that is followed: its files, with the stamps, the pieces and the tails of what the session has of them."""
 
     def __init__(self, top: str, program: Optional[str] = None) -> None:
         self.folder, self.top, self.program = os.path.dirname(top), os.path.basename(top), program
         self.session: Optional[Session] = None
         self.files: dict = {}
+        self.tails: dict = {}
         self.stamps: dict = {}
         self.faults: dict = {}
         self.report: Optional[Report] = None
@@ -83,7 +102,9 @@ class Watch:
             # It may have been loaded in the middle of a save.
             if all(stamp(self.path(name)) == self.stamps[name] for name in texts):
                 break
-        self.files = {name: cut(text)[0] for name, text in texts.items() if text is not None}
+        whole = {name: cut(text) for name, text in texts.items() if text is not None}
+        self.files = {name: pieces for name, (pieces, _) in whole.items()}
+        self.tails = {name: tail for name, (_, tail) in whole.items()}
         yield from self.told(f"{self.top}: {report.counts.theorems:,} theorems, {report.counts.proved:,} proved", at)
         yield from self.compared(report)
 
@@ -106,7 +127,6 @@ class Watch:
                 yield from self.begin()
                 return
             new[name] = text
-        self.faults = {name: fault for name, fault in self.faults.items() if name not in new}
         if any(inclusions(text) != inclusions(b"".join(self.files[name])) for name, text in new.items()):
             yield from self.begin()
             return
@@ -121,8 +141,10 @@ class Watch:
 
     def edited(self, new: dict, at: float) -> Iterator[str]:
         """Brings the session to new texts of files."""
-        changes = []
+        changes, said = [], None
         for name, text in new.items():
+            if self.faults.pop(name, None):
+                said = "the text has no fault any more"
             fault = self.session.fault(name, ended(text))
             if fault:
                 self.faults[name] = fault
@@ -130,12 +152,14 @@ class Watch:
                 yield from self.told(f"{RED}{self.path(name)}:{line}:{column} {number}: {SENTENCES[number]}", at)
                 # It is looked at again with the next save.
                 continue
-            pieces = cut(text)[0]
+            pieces, tail = cut(text)
+            if tail != self.tails[name]:
+                said = said or "nothing but comments behind the last statement changed"
             changes += edits(name, self.files[name], pieces)
-            self.files[name] = pieces
+            self.files[name], self.tails[name] = pieces, tail
         if not changes:
-            if not self.faults:
-                yield from self.told("nothing but comments behind the last statement changed", at)
+            if said and not self.faults:
+                yield from self.told(said, at)
             return
         try:
             ran = self.session.batch(changes)
@@ -148,13 +172,11 @@ class Watch:
 
     def compared(self, report: Report) -> Iterator[str]:
         """What is in one report, and not in the one before."""
-        before = collections.Counter(map(key, self.report.findings if self.report else ()))
-        now = collections.Counter(map(key, report.findings))
-        broke = [each for each in report.findings if key(each) in now - before]
-        mended = [each for each in (self.report.findings if self.report else ()) if key(each) in before - now]
+        old = self.report.findings if self.report else []
+        broke, mended = more(report.findings, old), more(old, report.findings)
         yield from self.listed(broke)
         yield from cut_short((f"  {GREEN}mended {each.label or each.word}{f' {each.number}' if each.number else ''}" for each in mended), len(mended))
-        if self.report and self.report.findings and not report.findings:
+        if old and not report.findings:
             yield f"  {GREEN}nothing is wrong any more"
         self.report = report
 
