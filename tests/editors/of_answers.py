@@ -119,6 +119,8 @@ def known(program):
         for word, step in (("wp $(", "step 1, `wp`, leaves"), ("wq  ae", "step 2, `wq`, leaves"), ("ae $.", "step 3, `ae`, is wrong")):
             told = [client.at("hover", "a.mm", word, at)["contents"]["value"] for at in range(3)]
             assert all(each.startswith(step) for each in told), told
+        client.replace("a.mm", "ABCDE $.", "ABC $( By mp. By mp $) DE $.")
+        assert client.at("hover", "a.mm", "mp $) DE")["contents"]["value"].startswith("`mp` **axiom**") and client.at("hover", "a.mm", "By mp.") is None
         assert client.at("hover", "a.mm", "wq $)")["contents"]["value"].startswith("`wq` hypothesis") and client.at("hover", "a.mm", "A wq.") is None
         assert client.at("hover", "a.mm", "-> ( )") is None
 
@@ -177,7 +179,7 @@ ${ wh $e |- p $.
   ${ wi $e |- q $. wj $p |- q $= wi $. $}
   wk $e |- q $. wl $p |- q $= wk $. wm $p |- q $= wk $. $( ${ $)
 $}
-wn $p |- p $= we $.
+wn $p $( $= or $. $) |- p $= we $.
 $[ c.mm $]
 wo $p |- p $= we $.
 """
@@ -203,8 +205,9 @@ def scopes(program):
         def offers(name, text, labels):
             """Asserts what is offered in the first proof from a text on."""
             at = client.texts[name].index("$= w", client.texts[name].index(text)) + 4
-            found = [each["label"] for each in client.complete(name, at)["items"]]
-            assert sorted(found) == sorted(labels), (text, found)
+            found = client.complete(name, at)["items"]
+            assert sorted(each["label"] for each in found) == sorted(labels), (text, found)
+            assert all(each["documentation"] == "wn $p |- p" for each in found if each["label"] == "wn"), found
 
         for text, labels in wanted.items():
             name = "c.mm" if text == "wd $p" else "a.mm"

@@ -1,4 +1,5 @@
 """Tests of what is installed: the package of Python, by `make install`, and the package of Debian."""
+import json
 import os
 import pathlib
 import shutil
@@ -69,6 +70,10 @@ def installed(there):
     settings = {**os.environ, "PATH": f"{home}:{os.environ['PATH']}", "MMKEEP": ""}
     done = subprocess.run("mmkeep verify a.mm 2>&1 | mmkeep-explain a.mm", shell=True, cwd=there, env=settings, capture_output=True, timeout=60, check=False)
     assert done.returncode == 1 and b"a.mm:3:4: a `$c` in a block (F02)" in done.stdout and done.stderr == b"", done
+    done = subprocess.run("mmkeep verify a.mm 2>&1 | mmkeep-convert --sarif", shell=True, cwd=there, env={**settings, "MMKEEP_HELP": ""}, capture_output=True, timeout=60, check=False)
+    pages = {each["helpUri"] for each in json.loads(done.stdout)["runs"][0]["tool"]["driver"]["rules"]}
+    [page] = (there / "usr/share/doc/mmkeep").resolve().glob("FAULTS.md*")
+    assert pages == {page.as_uri()}, (pages, page)
     assert {"mmkeep", "mmkeep-lsp", "mmkeep-explain", "mmkeep-watch", "mmkeep-convert", "mmkeep-graph"} == {each.name for each in home.iterdir()}
     assert any((there / f"usr/share/man/man1/mmkeep.1{end}").exists() for end in ("", ".gz")) and (there / "usr/share/mmkeep/editor/nvim/init.lua").exists()
 

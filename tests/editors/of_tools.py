@@ -22,6 +22,7 @@ STEPS = [
     ("${ k1 $e |- p $. k2 $e |- ( p -> q ) $. t $p |- q $= ( mp ) ABDCE $. $}", "P09", ["expected |- p", "got      |- ( p -> q )"]),
     ("${ k1 $e |- p $. k2 $e |- ( p -> q ) $. t $p |- q $= ( mp ) CABDE $. $}", "P08", ["expected wff ...", "got      |- p"]),
     ("${ k1 $e |- p $. k2 $e |- ( p -> q ) $. t $p |- q $= wp wq k1 wp mp $. $}", "P09", ["expected |- ( p -> q )", "got      wff p"]),
+    ("${ k1 $e |- p $. k2 $e |- ( p -> q ) $. t $p |- q $= ( mp ) AB $( $= ) $) DCEA $. $}", "P09", ["expected |- p", " ^"]),
     ("t $p wff ( p -> q ) $= wp wi $.", "P07", ["expected 2 entries", "got      1"]),
     ("t $p wff ( p -> q ) $= wp wp wi $.", "P15", ["expected wff ( p -> q )", "got      wff ( p -> p )"]),
     ("t $p wff p $= wp wp $.", "P14", ["2 entries are left"]),
@@ -46,10 +47,11 @@ def in_words(program):
             shown = [line.strip() for line in told]
             assert all(any(each.endswith(line) for each in shown) for line in lines), told
             assert told[2].index("^") - told[1].index("|") - 2 == report.findings[0].place.column - 1, told
-        file.write_bytes(LOGIC.replace(b"mp $a |- q $.", b"mp $a |- z $.") + b"${ k $p |- p $= ( mp ) A $. $}\n")
-        told = mmkeep.explain(mmkeep.verify("a.mm", folder, program), folder, "a.mm")
-        assert told[0].startswith("a.mm:3:") and "(F10)" in told[0] and len(told) == 8, told
-        assert told[3] == "2 proofs name `mp`, which is at fault at a.mm:3:50" and told[4].endswith("also k") and " th: " in told[5], told
+        for note in (b"", b"$( $a $. $) "):
+            file.write_bytes(LOGIC.replace(b"mp $a |- q $.", b"mp $a " + note + b"|- z $.") + b"${ k $p |- p $= ( mp ) A $. $}\n")
+            told = mmkeep.explain(mmkeep.verify("a.mm", folder, program), folder, "a.mm")
+            assert told[0].startswith("a.mm:3:") and "(F10)" in told[0] and len(told) == 8, told
+            assert told[3] == f"2 proofs name `mp`, which is at fault at a.mm:3:{50 + len(note)}" and told[4].endswith("also k") and " th: " in told[5], told
         file.write_bytes(LOGIC + b"x $a |- \x80 $.\n")
         words = f"'{program}' verify a.mm 2>&1 | '{sys.executable}' '{PYTHON / 'bin/mmkeep-explain'}' a.mm"
         done = subprocess.run(words, shell=True, cwd=folder, capture_output=True, timeout=60, check=False)

@@ -42,14 +42,18 @@ def marked(sources: Sources, finding: Finding) -> int:
     """How many bytes are marked: a word, or one letter among those of a proof."""
     text, at = sources.text(finding.place.file), sources.byte(finding.place)
     word = sources.word(finding.place)
-    is_letter = finding.kind in ("wrong", "incomplete") and finding.number not in ("P01", "P02") and in_letters(text, at)
+    is_letter = finding.kind in ("wrong", "incomplete") and finding.number not in ("P01", "P02") and in_letters(*sources.piece(finding.place))
     return 1 if finding.number == "T01" or is_letter else max(1, len(word))
 
 
 def in_letters(text: bytes, at: int) -> bool:
-    """Whether a byte of a proof is among its letters: behind the `)` of a list."""
+    """Whether a byte of a proof is among its letters: behind the `)` of a list. Comments are blank.
+
+    >>> in_letters(b"a $p b $= ( c ) ABC $. ", 17), in_letters(b"a $p b $= ( c ) ABC $. ", 12)
+    (True, False)
+    """
     begin = text.rfind(b"$=", 0, at)
-    return re.match(rb"\$=\s+(\$\(.*?\$\)\s+)*\(\s", text[begin:at], re.DOTALL) is not None and b")" in text[begin:at] and text[at : at + 1] != b"$"
+    return re.match(rb"\$=\s+\(\s", text[begin:at]) is not None and b")" in text[begin:at] and text[at : at + 1] != b"$"
 
 
 def notes(sources: Sources, reading: Optional[Reading], finding: Finding) -> list:

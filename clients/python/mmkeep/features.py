@@ -50,8 +50,8 @@ class Spot:
             self.statement = next(inside, None)
 
     def is_in_proof(self) -> bool:
-        """Whether the byte is in a proof."""
-        return self.statement is not None and bool(self.statement.proof) and self.offset >= self.statement.proof[0][1]
+        """Whether the byte is in a word of a proof, or right after one."""
+        return self.statement is not None and any(at <= self.offset <= at + len(word) for word, at in self.statement.proof)
 
     def is_in_list(self) -> bool:
         """Whether the byte is in the list of a compressed proof, or in its brackets."""

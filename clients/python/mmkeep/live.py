@@ -127,15 +127,13 @@ class Live(Reading):
             return [], None, []
 
     def step_at(self, label: str, at: int) -> Optional[Done]:
-        """The step of a proof that has a byte of its piece: its number, its step, and the expression that it leaves.
-
-        In a normal proof the byte is in the word of the step, or right after it."""
+        """The step of a proof that has a byte of its piece, in a word of the proof or right after one: its number, its step, and the expression that it leaves."""
         try:
             machine = Machine(self, label)
             is_normal = machine.statement.proof[0][0] != "("
             for done in machine.run():
                 if done.step.at + (len(done.step.what) if is_normal else 0) >= at:
-                    return None if is_normal and done.step.at > at else done
+                    return done
         except (AttributeError, IndexError, KeyError, ValueError):
             pass
         return None

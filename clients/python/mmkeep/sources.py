@@ -73,8 +73,10 @@ class Sources:
         self.reading: Optional[Reading] = None
         for place in faults:
             self.faults.setdefault(place.file, []).append(place)
-        # The bytes of the faults of a file, in order, once they are asked for.
+        # The bytes of the faults of a file, in order, and those at which its pieces begin, once they are asked for; the piece that was looked at last.
         self.marks: dict = {}
+        self.begins: dict = {}
+        self.looked: tuple = (None, 0, b"")
 
     def on_disk(self, file: str) -> Optional[bytes]:
         """The text of a file on disk."""
@@ -129,11 +131,20 @@ class Sources:
 
     def label_around(self, place: Place) -> Optional[str]:
         """The label of the statement with a place, if it has one."""
-        text, at = self.text(place.file), self.byte(place)
+        text, at = self.piece(place)
         last = max(text.rfind(b"$.", 0, at), 0)
-        begin = max(text.rfind(mark, last, at) for mark in (b"$.", b"${", b"$}", b"$)"))
+        begin = max(text.rfind(mark, last, at) for mark in (b"$.", b"${", b"$}"))
         found = labels(text[max(begin, 0) : text.find(b"$.", at) + 2])
         return found[0][0] if found else None
+
+    def piece(self, place: Place) -> tuple:
+        """The piece with a place, or the tail, with spaces for comments; and the byte of it."""
+        text, at = self.text(place.file), self.byte(place)
+        begins = self.begins[place.file] = self.begins.get(place.file) or [0, *ends(text)]
+        number = bisect.bisect_right(begins, at) - 1
+        if self.looked[:2] != (place.file, number):
+            self.looked = place.file, number, blank(text[begins[number] : begins[number + 1] if number + 1 < len(begins) else len(text)])
+        return self.looked[2], at - begins[number]
 
 
 class Frame(NamedTuple):
@@ -279,8 +290,8 @@ class Reading:
 def lists_in(text: bytes) -> Iterator:
     """The label of each theorem of a text, with the labels that its proof names.
 
-    >>> [(label, sorted(named)) for label, named in lists_in(b"a $p x $= ( c b ) AB $. d $p x $= b ? $.")]
-    [('a', ['b', 'c']), ('d', ['b'])]
+    >>> [(label, sorted(named)) for label, named in lists_in(b"a $p x $= ( c b ) AB $. d $p x $= ( b $. e $p x $= b ? $.")]
+    [('a', ['b', 'c']), ('d', ['b']), ('e', ['b'])]
     """
     text, last = blank(text), 0
     for found in PROOF.finditer(text):
