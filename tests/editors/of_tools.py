@@ -224,6 +224,12 @@ def watched(program):
         file, other = pathlib.Path(folder, "a.mm"), pathlib.Path(folder, "b.mm")
         file.write_bytes(b"$[ b.mm $]\n" + LOGIC)
         other.write_bytes(b"$c k $.\n")
+
+        def saved(text):
+            """Puts a file in the place of the other one, so that no half of it is read."""
+            pathlib.Path(folder, "new").write_bytes(text)
+            pathlib.Path(folder, "new").rename(other)
+
         with watch_of(program, folder, "a.mm") as watch:
             watch.until("a.mm: 1 theorems, 1 proved (")
             file.write_bytes(b"$[ b.mm $]\n" + LOGIC.replace(b"h1 h2 mp", b"h2 h1 mp"))
@@ -233,19 +239,19 @@ def watched(program):
             other.write_bytes(b"$c k $. $c k $.\n")
             watch.until("broke k: b.mm:1:12 F04")
             # Of findings that are alike, those at a new place are new.
-            other.write_bytes(b"$c k $. $c k $.\n$c k $.\n")
+            saved(b"$c k $. $c k $.\n$c k $.\n")
             told = watch.until("broke k: b.mm:2:4 F04")
-            other.write_bytes(b"$c k $. $c k $.\n$c l\n")
+            saved(b"$c k $. $c k $.\n$c l\n")
             told += watch.until("b.mm:2:1 T07")
             assert not any("broke k: b.mm:1:12" in line for line in told), told
-            other.write_bytes(b"$c k $. $c k $.\n$c k $.\n")
+            saved(b"$c k $. $c k $.\n$c k $.\n")
             watch.until("the text has no fault any more")
             # Where nothing changed, nothing is told.
             other.touch()
             time.sleep(1)
-            other.write_bytes(b"$c k $. $c k $.\n$c k $.\n$( A note. $)\n")
+            saved(b"$c k $. $c k $.\n$c k $.\n$( A note. $)\n")
             assert len(watch.until("nothing but comments behind the last statement changed")) == 1
-            other.write_bytes(b"$c k $.\n$c l $.\n")
+            saved(b"$c k $.\n$c l $.\n")
             told = watch.until("mended k F04")
             assert len(told) == 2, told
             watch.until("mended k F04")

@@ -311,7 +311,7 @@ class Held:
         return min(self.before, length)
 
     def piece_at(self, at: int) -> int:
-        """The piece of the session that has a byte of the buffer, or its tail; of what changed, the first one that may be another now."""
+        """The piece of the session that has a byte of the buffer, or its tail; for a byte of what changed, the first piece that did."""
         if at > self.before:
             old = at - self.document.text.length - self.fed() + self.length
             at = old if old >= self.length - self.behind else self.before

@@ -254,7 +254,8 @@ class Session:
     def fault(self, file: str, text: bytes) -> Optional[tuple]:
         """The first fault of a text, that is read after whole pieces: its number, line and column there; or nothing.
 
-        A LookupError says that no file of this name was loaded. Nothing is edited: what is asked for is a batch whose second edit is refused."""
+        A LookupError says that no file of this name was loaded. Nothing is edited: what is asked for is a batch whose second edit
+        is refused."""
         try:
             self.batch([Insert(file, 0, text), Delete("$", 0)])
         except Refused as refused:

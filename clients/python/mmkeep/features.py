@@ -22,7 +22,7 @@ if TYPE_CHECKING:
 
 WORD = re.compile(rb"[^ \t\n\f\r]+")
 LABEL = re.compile(r"[A-Za-z0-9._-]+")
-# So many labels are offered at once; a file with more assertions gets no lenses. So many bytes of a piece are read at most for a completion.
+# So many labels are offered at once; a file with more assertions gets no lenses; so many bytes of a piece are read for completion.
 OFFERED, LENSES, NEAR = 200, 3000, 1 << 18
 KINDS = {"a": ("axiom", 14), "p": ("theorem", 12), "e": ("hypothesis", 13), "f": ("hypothesis", 13)}
 # The kinds of tokens: words of Metamath, and the variables of the first typecodes.
@@ -127,20 +127,19 @@ def completion(base: Base, document: Document, position: dict) -> dict:
 
 
 def named_before(base: Base, held: Held, at: int, prefix: str) -> dict:
-    """The labels, with their kinds, that a proof with a byte of an open file may name: of assertions before it, and of hypotheses that are active at it.
+    """The labels with a prefix, and their kinds, that the proof at a byte may name: of assertions before it, and of active hypotheses.
 
     What is before it in its piece is read from the buffer, for it may be half written; of very much, the end."""
     live, piece = base.live(), held.piece_at(at)
     start, number = held.now(held.starts[piece]), live.read_before[held.name][piece]
     begin = max(start, at - NEAR)
-    faults = live.faults.get((held.name, piece), ()) if not held.dirty else ()
+    faults = sorted(live.faults.get((held.name, piece), ())) if not held.dirty else []
     inside = statements(held.document.text.slice(begin, at), begin - start)
-    inside = [each for each in inside if not any(each.begin <= fault < each.end for fault in faults)]
+    inside = [each for each in inside if bisect.bisect_left(faults, each.begin) == bisect.bisect_left(faults, each.end)]
     named = [each for each in inside if each.kind in ("$a", "$p")]
     named += [each for each in active_after(live.outer_before(number), inside) if each.kind in ("$e", "$f")]
-    found = {label: each.kind for label, each in live.declared.items() if label.startswith(prefix) and each.kind in "ap" and each.piece < number}
-    found.update((each.label, each.kind[1]) for each in named if each.label and each.label.startswith(prefix))
-    return found
+    found = {label: each.kind for label, each in live.declared.items() if each.kind in "ap" and each.piece < number and label.startswith(prefix)}
+    return {**found, **{each.label: each.kind[1] for each in named if each.label and each.label.startswith(prefix)}}
 
 
 def shown(base: Base, label: str) -> str:

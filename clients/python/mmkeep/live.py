@@ -127,7 +127,7 @@ class Live(Reading):
             return [], None, []
 
     def step_at(self, label: str, at: int) -> Optional[Done]:
-        """The step of a proof that has a byte of its piece, in a word of the proof or right after one: its number, its step, and the expression that it leaves."""
+        """The step of a proof that has a byte of its piece, or ends right before it: its number, its step, and the expression that it leaves."""
         try:
             machine = Machine(self, label)
             is_normal = machine.statement.proof[0][0] != "("

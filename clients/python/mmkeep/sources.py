@@ -73,7 +73,8 @@ class Sources:
         self.reading: Optional[Reading] = None
         for place in faults:
             self.faults.setdefault(place.file, []).append(place)
-        # The bytes of the faults of a file, in order, and those at which its pieces begin, once they are asked for; the piece that was looked at last.
+        # The bytes of the faults of a file, in order, and those at which its pieces begin, once they are asked for; and the piece that
+        # was looked at last.
         self.marks: dict = {}
         self.begins: dict = {}
         self.looked: tuple = (None, 0, b"")
@@ -141,10 +142,10 @@ class Sources:
         """The piece with a place, or the tail, with spaces for comments; and the byte of it."""
         text, at = self.text(place.file), self.byte(place)
         begins = self.begins[place.file] = self.begins.get(place.file) or [0, *ends(text)]
-        number = bisect.bisect_right(begins, at) - 1
+        number = bisect.bisect_right(begins, at)
         if self.looked[:2] != (place.file, number):
-            self.looked = place.file, number, blank(text[begins[number] : begins[number + 1] if number + 1 < len(begins) else len(text)])
-        return self.looked[2], at - begins[number]
+            self.looked = place.file, number, blank(text[begins[number - 1] : begins[number] if number < len(begins) else len(text)])
+        return self.looked[2], at - begins[number - 1]
 
 
 class Frame(NamedTuple):

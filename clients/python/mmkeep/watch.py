@@ -42,7 +42,7 @@ def key(finding: Finding) -> tuple:
 
 
 def more(findings: list, others: list) -> list:
-    """The findings that are not among others. Of those that are alike, it is as many as there are more, first those whose place is new.
+    """The findings that are not among others: of those that are alike, as many as there are more, and first those at a new place.
 
     >>> from mmkeep.reports import Place
     >>> old, new = (Finding("fault", None, Place("a.mm", line, 1), "F08", "b") for line in (7, 3))
