@@ -72,9 +72,9 @@ impl Base {
     }
 
     /// Builds the base of the files from a top file on as `build` does, with an older base whose items can still be read. A
-    /// `$d`, `$f`, `$e`, `$a` or `$p` may be the same bytes as a sound item of the older base, in the same order. The numbers of
-    /// its symbols are then taken from there, and no symbol is read. As long as all items are the same ones, what is sound is
-    /// not judged again.
+    /// `$d`, `$f`, `$e`, `$a` or `$p` may be the same bytes as a sound item of the older base, in the same order. The numbers
+    /// of its symbols are then taken from there, and no symbol is read. As long as all items are the same ones, what is sound
+    /// is not judged again.
     pub fn rebuild(
         alloc: Global,
         names: &mut Names,

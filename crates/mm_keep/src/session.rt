@@ -23,8 +23,8 @@ use std::slice;
 /// So many names that are gone cost an edit less than a millisecond.
 const FEW_NAMES: usize = 16_384;
 
-/// Files that are verified from a top file on, and stay verified from edit to edit: an edit runs the proofs whose view it
-/// changes, and no others.
+/// Files that are verified from a top file on, and stay verified from edit to edit: an edit runs the theorems that were not
+/// there before with the same label and the same view, and no others.
 ///
 /// The view of a theorem is all of the database that the verdict on its proof depends on: the words of the proof, the
 /// expression, the mandatory hypotheses, the active pairs, and what each label that the proof names means there. What a

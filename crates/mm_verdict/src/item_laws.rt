@@ -82,7 +82,7 @@ pub fn spots_are_in()
     ensures { SpotsAreIn }
 {}
 
-/// Labels that derive a statement are, as the words of a normal proof, a proof of it.
+/// Labels of label characters that derive a statement are, as the words of a normal proof, a proof of it.
 pub fn labels_are_a_proof()
     ensures { LabelsAreAProof }
 {}

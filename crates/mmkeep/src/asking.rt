@@ -1,7 +1,7 @@
 //! Which words are a command.
 
 ghost use Rattle.std.specs.Prelude.{◌≡◌, Some, None, IfOk, IfSome, IfNone, map, string_bytes};
-ghost use Rattle.mmkeep.specs.{Language.Asking.{file_of, given, said, words_of}, declared.arguments.Invocation.{Invocation as Asked}};
+ghost use Rattle.mmkeep.specs.{Language.Asking.{file_of, given, said, words_of}, declared.arguments.Invocation.{Invocation}};
 
 use crate::arguments::Invocation;
 use std::alloc::{AllocError, Global};
@@ -12,7 +12,7 @@ use std::alloc::{AllocError, Global};
 /// Takes no memory.
 pub fn command<'a>(words: &[&'a str]) -> Option<Invocation<'a>>
     ensures some { IfSome result (λ asked. said words.now ≡ words_of asked) }
-    ensures none { result ≡ None → (asked : Asked) → ¬ (said words.now ≡ words_of asked) }
+    ensures none { result ≡ None → (asked : Invocation) → ¬ (said words.now ≡ words_of asked) }
 {
     match words {
         [verb, file] if *verb == "verify" => Some(Invocation::Verify(file)),
@@ -36,7 +36,7 @@ fn words_in(alloc: Global, arguments: &[String]) -> Result<Vec<&str>, AllocError
 /// The command that these arguments are, of which the first is the program's name; nothing if they are none.
 pub fn command_of(alloc: Global, arguments: &[String]) -> Result<Option<Invocation<'_>>, AllocError>
     ensures some { IfOk result (λ found. IfSome found (λ asked. given arguments.now ≡ words_of asked)) }
-    ensures none { IfOk result (λ found. IfNone found ((asked : Asked) → ¬ (given arguments.now ≡ words_of asked))) }
+    ensures none { IfOk result (λ found. IfNone found ((asked : Invocation) → ¬ (given arguments.now ≡ words_of asked))) }
 {
     let words = words_in(alloc, arguments)?;
     match words.as_slice() {

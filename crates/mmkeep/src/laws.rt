@@ -4,8 +4,8 @@ ghost use Rattle.std.specs.Prelude.{◌≡◌, ℕ, All, Contains, List, [], Non
 ghost use Rattle.mm_report.specs.{mm_statement.Language.{Database.{Refers}, Item.{Missing}}, mm_store.Language.FilesView.{File, file_number}};
 ghost use Rattle.mmkeep.specs.Language.Loading.{AreLoaded, GivesFile, KnownFile};
 
-/// A name of the database of loaded files that no file has is one that the source lacks. Each reference to a missing file in
-/// the database names such a one.
+/// A name of the database of loaded files that no file has is one that the source lacks, if the source says of it what it
+/// holds. Each reference to a missing file in the database names such a one.
 pub fn missing_are_lacked()
     ensures names { (holds : List ℕ → KnownFile) (top : List ℕ) (files : List File) (loaded : AreLoaded holds top files) (name : List ℕ)
         → Contains loaded.database.after name → file_number files name ≡ None → GivesFile (holds name) name [] }

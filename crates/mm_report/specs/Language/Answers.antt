@@ -67,8 +67,8 @@ told_line names label (Incomplete at) = incomplete_line names label at
 told_line names label (Wrong number at) = wrong_line names label number at
 told_line names label _ = []
 
--- the answer if edits are done: the word `ran`, with the labels of the theorems whose proofs are run, which are those whose views the
--- edits change; the top file stays
+-- the answer if edits are done: the word `ran`, with the labels of the theorems whose proofs are run, which are those that were not there
+-- before with the same label and the same view; the top file stays
 pub record IsRunAnswer (old new : SessionView) (answer : List ℕ) : Type 0 where
   pub top : new.top ≡ old.top
   pub runs : List ℕ

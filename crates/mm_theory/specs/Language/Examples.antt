@@ -108,7 +108,7 @@ abbrev pub small_system : System
 small_system = system_of small.base (5 ∷ [])
 
 -- Its variables have the typecode of their `$f`, and so have their copies, which have a number more in front of their names. A constant
--- has none, nor has a name without a `$f`.
+-- has none, nor has a name of which no end has a `$f`.
 abbrev pub VariablesAreTyped : Type 0
 VariablesAreTyped =
     (small_system.typecode small.p ≡ Some (constant (codes "w")))

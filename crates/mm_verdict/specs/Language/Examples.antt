@@ -57,7 +57,8 @@ StandForSevenLabels = expansion (setting database) steps ≡ Some (record {
 })
 
 -- The view of the theorem: its proof, its expression, its one mandatory hypothesis, the three pairs that are active at it, and what `wi`
--- means there. The label `t`, `wq`, `wr` and the places of the statements are not in it: an edit that changes these alone runs no proof.
+-- means there. `wq`, `wr` and the places of the statements are not in it: an edit that changes these alone runs no proof. Nor is the label
+-- `t`; but a theorem with another label was not there before, so it is run.
 abbrev pub HasThisView : Type 0
 HasThisView = view_at whole_base 7 ≡ record {
   proof = proof;

@@ -66,7 +66,7 @@ SpotsAreIn = (view : BaseView) (i : ℕ) (v : Verdict) → IsVerdictAt view i v 
 abbrev pub CouldLabel : List ℕ → Type 0
 CouldLabel word = list_all is_label_byte word ≡ true
 
--- Labels that derive a statement are a normal proof of it: as the words of the proof, they are judged Proved.
+-- Labels of label characters that derive a statement are a normal proof of it: as the words of the proof, they are judged Proved.
 abbrev pub LabelsAreAProof : Type 0
 LabelsAreAProof =
     (place : Setting) (mandatory labels : List (List ℕ)) (statement : List Symbol) → AllByRecursion CouldLabel labels → Derives place labels statement

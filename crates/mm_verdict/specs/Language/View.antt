@@ -9,7 +9,8 @@ use Rattle.mm_machine.specs.Language.SameProof.{AreSameMeaning}
 use Rattle.mm_verdict.specs.Language.VerdictAt.{statement_at}
 
 -- The view of a theorem: the words of its proof, its expression, its mandatory hypotheses, all pairs that are active at it, and what each
--- label that its proof names means there. Neither its own label nor those of its hypotheses are in it, nor the places of the items.
+-- label that its proof names means there. Neither its own label nor those of its hypotheses are in it, but as words
+-- of the proof, nor the places of the items.
 pub record View : Type 0 where
   pub proof : List (List ℕ)
   pub expression : List Symbol

@@ -33,7 +33,7 @@ IsInOrderThen =
     AllInOrder proved × IsInOrderAfter (Session (word (codes "d.mm"))) proved × IsInOrderAfter (Verify (word (codes "d.mm"))) proved
     × IsInOrderAfter (Axioms (word (codes "d.mm")) (word (codes "no"))) unproved
 
--- A write of the report fails after 18 bytes, of which 13 have gone out.
+-- A write of the report fails when 13 bytes of it have gone out.
 abbrev pub IsCutThere : Type 0
 IsCutThere = IsCutOff (Verify (word (codes "d.mm"))) unproved unproved None None (Some []) (Some (codes "incomplete no")) errors.Write
 

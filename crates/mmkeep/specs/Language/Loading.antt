@@ -77,7 +77,8 @@ GivesFiles holds (name ∷ names) files =
     (first : List File) × (later : List File) × GivesFile (holds name) name first × GivesFiles holds names later × (files ≡ first ++ later)
 
 -- The files that are loaded from a top file on: those that the names of their database give, in the order of the first references to
--- them. So a reference to a missing file names one that the source lacks.
+-- them. So a reference to a missing file names one that the source lacks, if the
+-- source says of that name what it holds.
 pub record AreLoaded (holds : List ℕ → KnownFile) (top : List ℕ) (files : List File) : Type 0 where
   pub items : List Located
   pub database : IsDatabase files top items

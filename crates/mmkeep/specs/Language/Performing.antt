@@ -52,7 +52,7 @@ IsByLabel session label Clean = HasAssertion session label
 IsByLabel session label NoLabel = ¬ HasAssertion session label
 IsByLabel session label _ = ⊥
 
--- the axioms that the assertion with a label rests on are written, or that there is no such assertion
+-- the axioms to which the citations of the assertion with a label lead are written, or that there is no such assertion
 pub record ListsAxioms (session : SessionView) (label : List ℕ) (before after : Option (List ℕ)) (outcome : Outcome) : Type 0 where
   pub answer : List ℕ
   pub is_answer : IsAnswer session (script.Ask questions.Axioms label) answer session
