@@ -79,7 +79,6 @@ fn floor_of(stack: &[Entry], below: usize, kept: usize, count: usize) -> usize
 
 /// Gives a list this many symbols, if it has fewer.
 #[cold]
-#[inline(never)]
 fn stretch<S: Kept>(alloc: Global, symbols: &mut Vec<S>, count: usize) -> Result<(), AllocError>
     ensures count { OnOk result (count ≤ length symbols.new.items) }
     ensures grows { OnOk result ((more : List S) × (symbols.new.items ≡ symbols.old.items ++ more)) }
@@ -92,7 +91,6 @@ fn stretch<S: Kept>(alloc: Global, symbols: &mut Vec<S>, count: usize) -> Result
 
 /// Puts copies of symbols to a place before them, where they have room.
 #[cold]
-#[inline(never)]
 fn move_down<S: Kept>(
     alloc: Global,
     all: &mut [S],

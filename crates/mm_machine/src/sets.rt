@@ -25,7 +25,6 @@ pub struct Sets {
 
 /// Writes a place into a table, which gets more places if it has too few.
 #[cold]
-#[inline(never)]
 fn note(places: &mut Vec<usize>, at: usize, place: usize) -> Result<(), AllocError> {
     while places.len() <= at {
         places.push(0)?;

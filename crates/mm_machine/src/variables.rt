@@ -57,7 +57,6 @@ impl<S: Kept> Variables<S> {
 
     /// The number of a symbol, if it is one of the variables: all of them are searched.
     #[cold]
-    #[inline(never)]
     fn position(&self, symbol: &S) -> Option<usize>
         ensures { MatchOption result (Contains (map S.means self.now.all.items) (S.means symbol.now) → ⊥)
             (λ n. slice_get (map S.means self.now.all.items) n ≡ Some (S.means symbol.now)) }
