@@ -164,7 +164,8 @@ impl Base {
         self.parts.frames.at(i)
     }
 
-    /// The frame of the item with this number, if it is a sound `$a` or `$p`: its mandatory hypotheses and pairs.
+    /// The frame of the item with this number, if it is a sound `$a` or `$p`: its mandatory hypotheses, and its pairs in the
+    /// order of its `$f`, each once.
     pub fn frame(&self, i: usize) -> Option<&Frame>
         ensures some { (base : BaseView) → IsBase base self.now → is_some result ≡ is_framed_at base i }
         ensures means { (base : BaseView) → IsBase base self.now → IfSome result (λ frame. AreHypotheses base i frame.now.hypotheses.items) }
@@ -174,6 +175,8 @@ impl Base {
             → IfSome result (λ frame. AreSamePairs (kept_pairs names frame.now.pairs.items) (frame_at base i).pairs) }
         ensures numbered { (names : List (List ℕ)) (base : BaseView) → IsBaseBy names base self.now
             → IfSome result (λ frame. All (IsPairNumbered names) frame.now.pairs.items) }
+        ensures order { (names : List (List ℕ)) (base : BaseView) → IsBaseBy names base self.now
+            → IfSome result (λ frame. ArePairsRead names (pairs_in_order (frame_at base i)) frame.now.pairs.items) }
     {
         self.kept_frame(i)
     }

@@ -27,7 +27,7 @@ pub fn room_for_expressions(alloc: Global, count: usize) -> Result<Expressions, 
 }
 
 /// Adds the symbols of one more item, for which there may be a guess of an earlier one that has the same. It takes time linear
-/// in them on the average. Out of memory changes nothing.
+/// in them on the average.
 pub fn add_expression(
     expressions: &mut Expressions,
     guesses: &mut ListGuesses,

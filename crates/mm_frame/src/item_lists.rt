@@ -87,7 +87,7 @@ impl<T: Copy> ItemLists<T> {
         elements_between(&self.elements, part.start as usize, part.end as usize)
     }
 
-    /// Adds the list of one more item. Out of memory changes nothing.
+    /// Adds the list of one more item.
     pub fn add(&mut self, list: &[T]) -> Result<(), AllocError>
         ensures { OnOk result (self.new ≡ self.old ++ list.now ∷ []) }
     {
@@ -98,7 +98,7 @@ impl<T: Copy> ItemLists<T> {
         Ok(())
     }
 
-    /// Adds one more item, which has the list of the one with this number. Out of memory changes nothing.
+    /// Adds one more item, which has the list of the one with this number.
     pub fn share(&mut self, number: usize) -> Result<(), AllocError>
         ensures { OnOk result (self.new ≡ self.old ++ item_list self.old number ∷ []) }
     {

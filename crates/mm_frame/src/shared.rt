@@ -80,7 +80,7 @@ impl<T: Drop> Shared<T> {
         self.places.add(Some(place))
     }
 
-    /// Adds one more item, which has what the one with this number has. Out of memory changes nothing.
+    /// Adds one more item, which has what the one with this number has.
     pub fn share(&mut self, number: usize) -> Result<(), AllocError>
         ensures { OnOk result (shared_values self.new ≡ shared_values self.old ++ value_kept (shared_values self.old) number ∷ []) }
     {
@@ -88,7 +88,7 @@ impl<T: Drop> Shared<T> {
         self.places.add(place)
     }
 
-    /// Adds one more item, which has no value. Out of memory changes nothing.
+    /// Adds one more item, which has no value.
     pub fn pass(&mut self) -> Result<(), AllocError>
         ensures { OnOk result (shared_values self.new ≡ shared_values self.old ++ None ∷ []) }
     {

@@ -136,7 +136,7 @@ impl Checks {
         kept_in(&self.checks, self.places.at(i))
     }
 
-    /// Adds one more item: with no place, with a free one, or with what its check said. Out of memory changes nothing.
+    /// Adds one more item: with no place, with a free one, or with what its check said.
     pub fn push(&mut self, kept: Option<Option<KeptCheck>>) -> Result<(), AllocError>
         ensures { OnOk result (self.new ≡ self.old ++ kept ∷ []) }
     {

@@ -206,6 +206,7 @@ impl<S: Kept> Machine<S> {
         ensures places { OnOk result ((keys ≤ length self.new.lasting.variables.places.items) × (keys ≤ length self.new.pairs.variables.places.items)) }
         ensures holds { HoldsLasting S.means S.key_of self.new }
         ensures lasting { KeepsLasting S.means self.old self.new ⊎ (lasting_of S.means self.new ≡ []) }
+        ensures same { keys ≤ length self.old.lasting.variables.places.items → keys ≤ length self.old.pairs.variables.places.items → self.new ≡ self.old }
     {
         let has = self.lasting.variables.places.len() >= keys;
         if has && self.pairs.variables.places.len() >= keys {

@@ -1,7 +1,7 @@
 //! What pushing and citing an item of a base needs.
 
-ghost use Rattle.std.specs.Prelude.{◌≡◌, ◌<◌, List, true, length};
-ghost use Rattle.mm_frame.specs.Language.{Base.{BaseView, is_shown_at, is_proof_at}, Answering.{IsBase}};
+ghost use Rattle.std.specs.Prelude.{◌≡◌, ◌<◌, List, [], true, false, length};
+ghost use Rattle.mm_frame.specs.{Language.{Base.{BaseView, said_at, is_shown_at, is_proof_at}, Answering.{IsBase}}, mm_statement.Language.Item.{is_kind, Floating}};
 ghost use Rattle.mm_machine.specs.Language.{Frame.{AreSamePairs, Mandatory}, CodeLists.{meant_pairs}, Keys.{AreInKeyOrder, key_by_number}, NumberedSymbols.{by_number, all_by_number}};
 ghost use Rattle.mm_verdict.specs.{Language.Loaded.{CanBeCited, CitesItem, HasCited, IsAssertionOf, IsItemOf, IsLoaded}, Code.NumberedBase.{ByNames, numbered_hypothesis, numbered_setting}};
 
@@ -34,7 +34,9 @@ pub fn active(base: &Base, number: usize) -> &[(NumberedSymbol, NumberedSymbol)]
 
 /// What a machine loads of the item with this number: whether it is a `$f`, and its expression; no symbols if it has none.
 pub fn loaded_of(base: &Base, number: usize) -> (bool, &[NumberedSymbol])
-    ensures { IsItemOf base.now number (record { floating = result.0; expression = all_by_number result.1.now }) }
+    ensures item { IsItemOf base.now number (record { floating = result.0; expression = all_by_number result.1.now }) }
+    ensures floating { (view : BaseView) → IsBase view base.now → result.0 ≡ is_kind Floating (said_at view number).kind }
+    ensures none { (view : BaseView) → IsBase view base.now → is_shown_at view number ≡ false → result.1.now ≡ [] }
 {
     numbers_name_symbols(); // A law: symbols by number are those of their names.
     let symbols = base.expression(number).unwrap_or(&[]);

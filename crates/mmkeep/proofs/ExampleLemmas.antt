@@ -2,7 +2,7 @@
 use Rattle.std.proofs.Common.{◌≡◌, ◌≢◌, ◌⊎◌, ℕ, Some, List, [], ◌∷◌, ◌++◌, refl, ap, ◌∙◌, inl, inr, arith, codes}
 use Rattle.mm_report.specs.{mm_keep.Language.{Sessions.{HasAssertion, AreAxiomsOf}, Told.{counts}}, Language.Answers.{IsFound, IsUnknown}}
 use Rattle.mm_report.specs.Language.{Examples.{proved, one_incomplete, five_commands, five_answers, AnswersFive, HasNoLine, HasThisReport, RestsOnOne}, Laws.{CleanIsDerived}, Report.{summary}}
-use Rattle.mmkeep.specs.Language.{Performing.{AllInOrder}, Examples.{AxiomsLists, GivesWords, HasTheseWords, HasThisStatus, IsCutThere, IsInOrderThen, SessionEnds, VerifyFinds}}
+use Rattle.mmkeep.specs.Language.{Performing.{AllInOrder}, Examples.{AxiomsLists, GivesWords, HasTheseWords, HasThisStatus, IsCutThere, IsInOrderThen, ReadsNothing, SessionEnds, VerifyFinds}}
 
 first_byte : List ℕ → ℕ
 first_byte [] = 0
@@ -48,6 +48,9 @@ pub is_in_order_then : CleanIsDerived → HasNoLine → IsInOrderThen
 is_in_order_then law (items, of_files, all, told, none) =
     let order : AllInOrder proved = record { items = items; of_files = of_files; each = law proved items all of_files told none } in
     (order, order, order, tt)
+
+pub reads_nothing : ReadsNothing
+reads_nothing old new = ((λ same. same), tt)
 
 pub is_cut_there : HasThisReport → IsCutThere
 is_cut_there r = record {

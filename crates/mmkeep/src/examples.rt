@@ -1,6 +1,6 @@
 //! Commands and loading worked out by the definitions. Each function does nothing; what it promises is the examples.
 
-ghost use Rattle.mmkeep.specs.Language.Examples.{AxiomsLists, GivesWords, HasTheseWords, HasThisStatus, IsCutThere, IsInOrderThen, SessionEnds, VerifyFinds};
+ghost use Rattle.mmkeep.specs.Language.Examples.{AxiomsLists, GivesWords, HasTheseWords, HasThisStatus, IsCutThere, IsInOrderThen, ReadsNothing, SessionEnds, VerifyFinds};
 ghost use Rattle.mmkeep.specs.Language.LoadingExamples.{FaultStops, HasFaultThere, LoopIsLoaded, OpensKnown};
 
 /// What the three commands do with a small database, a report that is cut off, the words of commands, and each exit status.
@@ -10,6 +10,7 @@ pub fn commands_are_done_so()
     ensures session { SessionEnds }
     ensures order { IsInOrderThen }
     ensures cut { IsCutThere }
+    ensures reads { ReadsNothing }
     ensures status { HasThisStatus }
     ensures given { GivesWords }
     ensures words { HasTheseWords }

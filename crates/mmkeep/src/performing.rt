@@ -4,7 +4,8 @@ ghost use Rattle.std.specs.{Prelude.{◌≡◌, ◌≢◌, ◌↔◌, ℕ, List,
 ghost use Rattle.mm_report.specs.{mm_statement.Language.Item.{Said}, mm_keep.Language.{Findings.{counted}, Told.{Told, counts}}, Language.Report.{lines}};
 ghost use Rattle.mm_report.specs.mm_script.Language.Stream.{cannot_read, gone_out, has_failed, unread, written};
 ghost use Rattle.mmkeep.specs.declared.outcome.Outcome.TheVariants.{Clean};
-ghost use Rattle.mmkeep.specs.Language.Performing.{AllInOrder, EndsScript, IsCutOff, IsDone, IsInOrderAfter, IsJudged, IsStopped, ListsAxioms, Reports, StopsAxioms, StopsReport, StopsScript};
+ghost use Rattle.mmkeep.specs.Language.Performing.{AllInOrder, EndsScript, IsCutOff, IsDone, IsInOrderAfter, IsJudged, IsStopped, ListsAxioms, ReadsForSession, Reports, StopsAxioms, StopsReport};
+ghost use Rattle.mmkeep.specs.Language.Performing.{StopsScript};
 ghost use Rattle.mm_report.specs.mm_script.declared.error.ScriptError.TheVariants as errors;
 
 use crate::arguments::Invocation;
@@ -35,6 +36,7 @@ pub fn perform<R: Read, W: Write + Drop>(
     ensures sound { OnOk result (has_failed writing.new ≡ false) }
     ensures stopped { IfErr result (IsCutOff command.now session.old session.new (unread R.remaining reading.old) (unread R.remaining reading.new)
         (written (writer_contents W.contents) writing.old) (gone_out W.contents writing.new)) }
+    ensures reads { ReadsForSession command.now reading.old reading.new }
     ensures read_failed { IsErrOf result errors.Read → cannot_read reading.new ≡ true }
     ensures write_failed { IsErrOf result errors.Write → has_failed writing.new ≡ true }
 {
@@ -58,6 +60,7 @@ fn answer<R: Read, W: Write>(
     ensures derived { IfOk result (λ outcome. outcome ≡ Clean → IsInOrderAfter command.now session.new) }
     ensures stopped { IfErr result (IsStopped command.now session.old session.new (unread R.remaining reading.old) (unread R.remaining reading.new)
         (written W.contents writing.old) (written W.contents writing.new)) }
+    ensures reads { ReadsForSession command.now reading.old reading.new }
     ensures read_failed { IsErrOf result errors.Read → cannot_read reading.new ≡ true }
     ensures write_failed { IsErrOf result errors.Write → has_failed writing.new ≡ true }
 {

@@ -7,7 +7,7 @@ use Rattle.mm_report.specs.Language.Examples.{unproved, proved, one_incomplete, 
 use Rattle.mmkeep.specs.declared.arguments.Invocation.TheVariants.{Verify, Axioms, Session}
 use Rattle.mmkeep.specs.declared.outcome.Outcome.TheVariants.{Clean, Findings, Input, Memory, NoLabel, Stream, Words}
 use Rattle.mmkeep.specs.Language.Asking.{file_of, given, words_of}
-use Rattle.mmkeep.specs.Language.Performing.{AllInOrder, IsCutOff, IsDone, IsInOrderAfter}
+use Rattle.mmkeep.specs.Language.Performing.{AllInOrder, IsCutOff, IsDone, IsInOrderAfter, ReadsForSession}
 use Rattle.mmkeep.specs.Language.Status.{outcome_of, outcome_of_unloaded, status_of}
 use Rattle.mmkeep.specs.declared.unloaded.Unloaded.TheVariants as unloaded
 
@@ -32,6 +32,11 @@ abbrev pub IsInOrderThen : Type 0
 IsInOrderThen =
     AllInOrder proved × IsInOrderAfter (Session (word (codes "d.mm"))) proved × IsInOrderAfter (Verify (word (codes "d.mm"))) proved
     × IsInOrderAfter (Axioms (word (codes "d.mm")) (word (codes "no"))) unproved
+
+-- `verify` leaves what can be read as it was, and a session may read of it.
+abbrev pub ReadsNothing : Type 0
+ReadsNothing = (old new : List ℕ) → (ReadsForSession (Verify (word (codes "d.mm"))) old new → new ≡ old)
+    × ReadsForSession (Session (word (codes "d.mm"))) old new
 
 -- A write of the report fails when 13 bytes of it have gone out.
 abbrev pub IsCutThere : Type 0

@@ -19,6 +19,11 @@ use Rattle.mmkeep.specs.declared.arguments.Invocation.TheVariants.{Verify, Axiom
 use Rattle.mmkeep.specs.declared.outcome.Outcome.{Outcome}
 use Rattle.mmkeep.specs.declared.outcome.Outcome.TheVariants.{Clean, Findings, NoLabel}
 
+-- a session alone reads: another command leaves the reading as it is
+abbrev pub ReadsForSession : {R : Type 0} → Invocation → R → R → Type 0
+ReadsForSession (Session top) old new = ⊤
+ReadsForSession _ old new = new ≡ old
+
 -- clean if there are no lines before the summary of a report, and findings if there are some
 abbrev pub IsByLines : List ℕ → Outcome → Type 0
 IsByLines lines Clean = lines ≡ []

@@ -23,7 +23,7 @@ next c = elim c.if-not-is_loaded.branch [
       let h : Mandatory = record { floating = w.loaded_of-loaded.result.0; expression = map by_number w.loaded_of-loaded.result.1.now } in
       let before = c.loop-k.invariant in
       let within : n < length lasting = omega (arith, c.requires.within c.loop-k.k 0 c.loop-k-test.true, before.keeps.count) in
-      let is = w.loaded_of-loaded.ensures in
+      let is = w.loaded_of-loaded.ensures.item in
       let has : HasHypotheses base lasting n = λ view b framed k d l. before.keeps.stay _ (c.requires.hypotheses c.loop-k.k 0 c.loop-k-test.true view b framed k d l) in
       let same = sym w.in_ok-load.ensures.lasting in
       subst (Next c) (sym w.machine-is) (record {

@@ -22,7 +22,7 @@ loop-n-preserved c =
     record {
       holds = c.in_ok-added.ensures.holds;
       items = rw more (items_more c.args.base.now lasting c.loop-n.n _ (omega (arith, before.count, c.loop-n-test.true))
-          (rw (c.deref.ensures.value, ← c.in_ok-expression.ensures) c.loaded_of-loaded.ensures) before.items);
+          (rw (c.deref.ensures.value, ← c.in_ok-expression.ensures) c.loaded_of-loaded.ensures.item) before.items);
       count = ap length more ∙ length-set lasting c.loop-n.n _ ∙ before.count;
     }
 

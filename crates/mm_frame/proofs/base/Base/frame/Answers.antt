@@ -9,4 +9,5 @@ returns c = record {
   pairs = λ names base is. let some = framed_some (λ frame. frame.now.hypotheses.items) c.kept_frame.result base c.args.i (c.kept_frame.ensures.numbers base (names, is)) in
       ordered_pairs names (λ frame. frame.now.pairs.items) base c.args.i c.kept_frame.result some (c.kept_frame.ensures.order names base is);
   numbered = λ names base is. ordered_numbered names (λ frame. frame.now.pairs.items) base c.args.i c.kept_frame.result (c.kept_frame.ensures.order names base is);
+  order = c.kept_frame.ensures.order;
 }
