@@ -2,7 +2,8 @@
 
 ghost use Rattle.std.specs.Prelude.{◌≡◌, ℕ, ◌+◌, ◌<◌, ◌≤◌, ◌↔◌, IsTrue, false, List, [], ◌∷◌, ◌++◌, Contains, None, Some, IfErr, IfNone, IfSome, IfOk, IsErrOf, OnOk, OnErr, length, vec_len, vec_capacity};
 ghost use Rattle.mm_store.specs.{declared.{item.Item.{Item}, error.StoreError.TheVariants.{NoTop}}, Language.{Answers.{IsExpansionError}, FilesView.{FileView, file_number, files_in, number_of, plain}}};
-ghost use Rattle.mm_store.specs.{Language.{Keyless.{bare}, Walking.{WalkView, IsWalk, GoesOn, FindsMissing, FindsEnd}}, Code.{Gains.{names_in}, Steps.{behind, beginning, first_walk, IsReference, IsStep}}};
+ghost use Rattle.mm_store.specs.{Language.{Keyless.{bare}, Walking.{WalkView, IsWalk, StopsOnWay, FindsMissing, FindsEnd}}, Code.Gains.{names_in}};
+ghost use Rattle.mm_store.specs.Code.Steps.{behind, beginning, first_walk, IsReference, IsStep};
 
 use crate::error::StoreError;
 use crate::files::Files;
@@ -268,7 +269,7 @@ impl Walk {
         ensures end { IfOk result (λ found. IfNone found ((top : List ℕ) (items : List Item)
             → IsWalk (bare (plain files.now)) top items self.old → FindsEnd (bare (plain files.now)) top items self.old self.new)) }
         ensures err { OnErr result ((top : List ℕ) (items : List Item)
-            → IsWalk (bare (plain files.now)) top items self.old → GoesOn (bare (plain files.now)) top items self.old self.new) }
+            → IsWalk (bare (plain files.now)) top items self.old → StopsOnWay (bare (plain files.now)) top items self.old self.new) }
     {
         mm_text::one_meaning(); // A law: a text has one list of words, or one fault.
         mm_text::one_division(); // A law: words are divided into units in one way.

@@ -104,6 +104,13 @@ pub record GoesOn (files : List FileView) (top : List ℕ) (items : List Item) (
   pub keeps : new.names ≡ old.names ++ later
   pub taken : (name : List ℕ) → Contains new.names name → Contains old.names name ⊎ ((number_of files name ≢ None) ⊎ HasReported files old name)
 
+-- the walk goes on, and stops somewhere on its way: it has reported the reference that comes next only if it has not moved; and if it had
+-- reported one before, that is still so, or it has taken its name
+pub record StopsOnWay (files : List FileView) (top : List ℕ) (items : List Item) (old new : WalkView) : Type 0 where
+  pub goes_on : GoesOn files top items old new
+  pub same : new.told ≡ true → new ≡ old
+  pub passed : (part : Placed) → old.told ≡ true → StandsBefore files old part → (new ≡ old) ⊎ Contains new.names part.name
+
 -- the walk goes on to the first reference to a missing file that it has not reported, reports it, and stops before it; the file has this
 -- name. If the walk had reported the name of a reference before, it has taken it
 pub record FindsMissing (files : List FileView) (top : List ℕ) (items : List Item) (old new : WalkView) (name : List ℕ) : Type 0 where

@@ -3,8 +3,8 @@ use Rattle.std.proofs.Common.{arith, ◌≡◌, ◌≢◌, ℕ, true, false, Som
 use Rattle.std.{proofs.lemmas.{Grind.{common_steps}, Bool.{false≢true}, List.Elements.{Contains-push_cases, All-from_recursion, recursion_from_All}, Option.{none-some}}, specs.List.{AllByRecursion}}
 use Rattle.mm_store.specs.{declared.{item.{Item.{Item}, ItemKind.TheVariants.{Missing}}, walk.PlacedPiece.{PlacedPiece}}, Language.FilesView.{FileView, number_of}}
 use Rattle.mm_store.specs.Language.Expansion.{Placed, IsInclusion, placed_item}
-use Rattle.mm_store.specs.{Language.Walking.{WalkView, ArePending, Goes, IsWalk, HasReported, StandsBefore, MissNothing, MissOnlyTold, GoesOn, FindsMissing, FindsEnd}, Code.Gains.{HoldUnits}}
-use Rattle.mm_store.{specs.Code.Steps.{PassesTold, Tells, IsStep}, proofs.lemmas.expansion.{ExpansionLemmas.{OneReading, OneDivision}, NameLemmas.{all_and, kind_missing}}}
+use Rattle.mm_store.specs.Language.Walking.{WalkView, ArePending, Goes, IsWalk, HasReported, StandsBefore, MissNothing, MissOnlyTold, GoesOn, StopsOnWay, FindsMissing, FindsEnd}
+use Rattle.mm_store.{specs.Code.{Gains.{HoldUnits}, Steps.{PassesTold, Tells, IsStep}}, proofs.lemmas.expansion.{ExpansionLemmas.{OneReading, OneDivision}, NameLemmas.{all_and, kind_missing}}}
 use Rattle.mm_store.proofs.lemmas.expansion.{GoesLemmas.{goes_grows, goes_keeps}, StandingLemmas.{next_here, nothing_takes, items_takes}}
 use Rattle.mm_store.proofs.lemmas.expansion.WalkStepLemmas.{Went, before, included_first, leaves, comes_again, enters, passes, passes_told, walk_on, walk_ends}
 use Rattle.mm_store.specs.declared.walk.Step.TheVariants as steps
@@ -22,13 +22,7 @@ own_miss : (parts : List Placed) → AllByRecursion (λ part. ¬ IsInclusion par
 own_miss [] h = tt
 own_miss (part ∷ parts) h = ((λ kind. h.0 (kind_missing part.part.kind kind)), own_miss parts h.1)
 
--- what a walk has gone past since it was the first; a missing name that it has reported stays reported until the next step, which takes it
-pub record Since (files : List FileView) (top : List ℕ) (items : List Item) (first now : WalkView) : Type 0 where
-  pub goes_on : GoesOn files top items first now
-  pub same : now.told ≡ true → now ≡ first
-  pub passed : (part : Placed) → first.told ≡ true → StandsBefore files first part → (now ≡ first) ⊎ Contains now.names part.name
-
-pub since_first : (files : List FileView) (top : List ℕ) (items : List Item) (first : WalkView) → IsWalk files top items first → Since files top items first first
+pub since_first : (files : List FileView) (top : List ℕ) (items : List Item) (first : WalkView) → IsWalk files top items first → StopsOnWay files top items first first
 since_first files top items first is = record {
   goes_on = record {
     more = [];
@@ -85,8 +79,8 @@ module _ (files : List FileView) (top : List ℕ) (items : List Item) (first now
       by (inl old) = inl old
       by (inr same) = inr (λ none. none-some number (sym none ∙ ap (number_of files) (sym same) ∙ is))
 
-  gained_on : (new : WalkView) (gained : List Item) (since : Since files top items first now) → Went files now new since.goes_on.is_walk.pending gained → MissNothing gained → new.told ≡ false
-      → TakesNext new → TakesFiles new → Since files top items first new
+  gained_on : (new : WalkView) (gained : List Item) (since : StopsOnWay files top items first now) → Went files now new since.goes_on.is_walk.pending gained → MissNothing gained → new.told ≡ false
+      → TakesNext new → TakesFiles new → StopsOnWay files top items first new
   gained_on new gained since went none untold takes numbers =
       let g = since.goes_on in
       let more = goes_keeps went.goes in
@@ -107,7 +101,7 @@ module _ (files : List FileView) (top : List ℕ) (items : List Item) (first now
     takes_nothing : (new : WalkView) → IsStep files now steps.Nothing new → TakesNext new
     takes_nothing new step part stands = nothing_takes one_reading one_division files now new part stands step
 
-    pub since_nothing : (new : WalkView) → IsStep files now steps.Nothing new → Since files top items first now → Since files top items first new
+    pub since_nothing : (new : WalkView) → IsStep files now steps.Nothing new → StopsOnWay files top items first now → StopsOnWay files top items first new
     since_nothing new (inl l) since =
         gained_on new [] since (leaves files now new since.goes_on.is_walk.pending l since.goes_on.is_walk.are_pending) miss_none (ap (λ (walk : WalkView). walk.told) l.after)
         (takes_nothing new (inl l)) (takes_none new (ap (λ (walk : WalkView). walk.names) l.after))
@@ -139,7 +133,7 @@ module _ (files : List FileView) (top : List ℕ) (items : List Item) (first now
         by (inr named) =
             inr (inr (p.includes.part, ap (λ (walk : WalkView). walk.told) (sym same) ∙ p.told, stands_at spot new first p same is, p.includes.is_name ∙ named))
 
-    pub since_items : (spot : PlacedPiece) (new : WalkView) → IsStep files now (steps.Items spot) new → Since files top items first now → IsWalk files top items first → Since files top items first new
+    pub since_items : (spot : PlacedPiece) (new : WalkView) → IsStep files now (steps.Items spot) new → StopsOnWay files top items first now → IsWalk files top items first → StopsOnWay files top items first new
     since_items spot new (inl p) since start =
         gained_on new (map placed_item p.nothing.placed) since (passes one_reading one_division files now new spot since.goes_on.is_walk.pending p since.goes_on.is_walk.are_pending)
         (All-from_recursion NotMissing (map placed_item p.nothing.placed) (own_miss p.nothing.placed p.nothing.own)) (ap (λ (walk : WalkView). walk.told) p.after)
@@ -163,7 +157,7 @@ module _ (files : List FileView) (top : List ℕ) (items : List Item) (first now
           passed = passed_on new is.pending went.rest (item ∷ []) went.goes (λ part stands. items_takes one_reading one_division files now new part stands spot (inr p)) since.passed;
         }
 
-    pub since_tells : (name : List ℕ) (new : WalkView) (t : Tells files now name new) → Since files top items first now → FindsMissing files top items first new name
+    pub since_tells : (name : List ℕ) (new : WalkView) (t : Tells files now name new) → StopsOnWay files top items first now → FindsMissing files top items first new name
     since_tells name new t since =
         let g = since.goes_on in
         let is = g.is_walk in
@@ -189,5 +183,5 @@ module _ (files : List FileView) (top : List ℕ) (items : List Item) (first now
         } in
         subst (λ walk. FindsMissing files top items first walk name) (sym t.after) told
 
-  pub since_end : now.levels ≡ [] → Since files top items first now → FindsEnd files top items first now
+  pub since_end : now.levels ≡ [] → StopsOnWay files top items first now → FindsEnd files top items first now
   since_end none since = record { goes_on = since.goes_on; is_expansion = walk_ends files top (items ++ since.goes_on.more) now since.goes_on.is_walk none; names = refl }

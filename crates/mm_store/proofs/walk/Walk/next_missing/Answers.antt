@@ -1,4 +1,4 @@
-use Rattle.std.proofs.{Common.{arith, subst, ◌++◌}, lemmas.Grind.{common_steps}}
+use Rattle.std.{specs.Prelude.{Result, Ok, Err, OnErr}, proofs.{Common.{arith, subst, ◌++◌}, lemmas.Grind.{common_steps}}}
 use Rattle.mm_store.specs.{declared.walk.Step.{Step}, Language.{FilesView.{files_in, plain}, Keyless.{bare}}, Code.Steps.{IsStep}}
 use Rattle.mm_store.proofs.lemmas.expansion.{BareLemmas.{hold_bare, bare_nothing, bare_items, bare_tells}, BudgetLemmas.{bare_few, walk_few}, TurnLemmas.{nothing_less, items_less}}
 use Rattle.mm_store.proofs.lemmas.expansion.WalkLemmas.{since_first, since_nothing, since_items, since_tells, since_end}
@@ -58,3 +58,11 @@ loop-name-preserved c top items is =
     let now = c.loop-name.self in
     let t = bare_items view now new c.in-Items.field-0 (subst (λ (step : Step). IsStep (files_in view) now step new) c.in-Items.is c.in_ok-step.ensures.ok) in
     since_items (bare (plain view)) top items c.args.self.now now c.one_meaning.ensures.words c.one_division.ensures.units (hold_bare view c.hold_units.ensures) t.0 new t.1 (c.loop-name.invariant top items is) is
+
+-- what holds anyway holds of an error
+on_err : {T E P : Type 0} (result : Result T E) → P → OnErr result P
+on_err (Ok value) p = tt
+on_err (Err error) p = p
+
+pub returns-in_err-step-clause-err : goal.returns-in_err-step-clause-err
+returns-in_err-step-clause-err c = on_err c.from_residual.result (λ top items is. rw c.in_err-step.ensures.err (c.loop-name.invariant top items is))
