@@ -31,6 +31,8 @@ def made(edit, text_of):
             if texts[path].count(old) != 1:
                 raise ValueError(f"its old text is in {path} {texts[path].count(old)} times")
             texts[path], old = texts[path].replace(old, rest.removeprefix(" ")), None
+        elif word:
+            raise ValueError(f"a line that is none of an edit: {line}")
     if not texts or old is not None:
         raise ValueError("it has no old text and new one")
     if any(texts[path] == before[path] for path in texts):

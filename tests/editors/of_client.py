@@ -280,10 +280,9 @@ def splitters(program):
         subprocess.run(words, cwd=folder, check=True, capture_output=True, timeout=60)
         parts = [pathlib.Path(folder, "parts", name).read_bytes() for name in re.findall(r"\S+\.mm", pathlib.Path(folder, "parts/top.mm").read_text())]
         assert b"".join(parts) == file.read_bytes() and 2 <= len(parts) <= 5, parts
-        words = [sys.executable, str(ROOT / "bench/sessions"), program, str(DATABASES / "ql.mm")]
-        if (DATABASES / "ql.mm").exists():
-            done = subprocess.run(words, capture_output=True, timeout=100, check=False)
-            assert done.returncode in (0, 1) and b"the report" in done.stdout or b"ax-mp" not in (DATABASES / "ql.mm").read_bytes(), done
+        words = [sys.executable, str(ROOT / "bench/sessions"), program, str(DATABASES / "nf.mm")]
+        done = subprocess.run(words, capture_output=True, timeout=100, check=False)
+        assert done.returncode == 0 and b"the report" in done.stdout, done
 
 
 TESTS = [doctests, hints, sentences, counts, real, few_edits, texts, commands, strict, parts, splitters]

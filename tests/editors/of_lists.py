@@ -235,12 +235,12 @@ def manual(program):
         done = subprocess.run(["man", "--warnings", "-l", str(page)], capture_output=True, timeout=60, env=settings, check=False)
         assert (done.returncode, done.stderr) == (0, b"") and b"mmkeep" in done.stdout, done.stderr
     text = page.read_text()
-    for word in ("verify", "axioms", "session", "insert", "replace", "delete", "move", "batch", "report", "verdict", "cites", "users", "C01", "C04", "EXIT STATUS"):
+    for word in ("verify", "axioms", "session", "insert", "replace", "delete", "move", "batch", "report", "verdict", "cites", "users", "C01", "C02", "C03", "C04", "EXIT STATUS", *(f"\n.B {status}\n" for status in range(6))):
         assert word in text, word
 
 
 def picture(program):
-    """The picture of a session is well-formed, has its text as text, and says what docs/SCRIPTS.md says."""
+    """The picture of a session is well-formed, and has its text as text, with a command, an answer and a report."""
     tree = xml.etree.ElementTree.parse(CLIENTS / "editor/session.svg")
     lines = ["".join(each.itertext()) for each in tree.iter("{http://www.w3.org/2000/svg}text")]
     assert any("mmkeep session set.mm" in line for line in lines) and any(line.startswith("ran 1") for line in lines), lines

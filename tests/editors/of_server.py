@@ -289,7 +289,7 @@ def ends_early(program):
 
 
 def names(program):
-    """Names of files with a space or another letter, links, and a file that is nowhere on disk."""
+    """Names of files with a space or another letter, and a file that is nowhere on disk."""
     with Folder(program, {"my logic \u00e9.mm": LOGIC}) as client:
         client.open("my logic \u00e9.mm")
         shown = client.diagnostics("my logic \u00e9.mm")
