@@ -75,6 +75,8 @@ def wrong_lines(page):
             yield f"{LEFT_OUT.name} names {name}, which is not on the page"
         elif name not in found:
             yield f"{LEFT_OUT.name} names {name}, which an example reaches"
+        elif reasons[name] == NOT_YET:
+            yield f"{LEFT_OUT.name} does not say why no example reaches {name}"
 
 
 def write_left_out(page):

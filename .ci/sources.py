@@ -5,6 +5,7 @@ no code. So what is written there cannot mislead a rule that looks at tokens.
 """
 import pathlib
 import re
+import sys
 
 CRATES = pathlib.Path(__file__).resolve().parent.parent / "crates"
 TEXT = re.compile(r'b?r(#*)".*?"\1|b?"(?:\\.|[^"\\])*"', re.S)
@@ -293,6 +294,8 @@ def exports(tokens):
             yield from (str(word) for word in tokens[at + 3 : end] if WORD.fullmatch(word))
         elif token == "pub" and tokens[at + 1] in ("fn", "struct", "enum", "trait"):
             yield str(tokens[at + 2])
+        elif token == "pub" and (tokens[at + 1] == "mod" or tokens[at + 1] == "use" and tokens[at + 2] in ("self", "crate", "super")):
+            sys.exit(f"exports: a root names what it exports, and has no `pub {tokens[at + 1]} {tokens[at + 2]}`")
 
 
 def is_law(function):
