@@ -164,10 +164,9 @@ def workflow(program):
         given = {"RUNNER_TEMP": str(place.path / "temp"), "TOOLS": "ci", "GITHUB_PATH": str(place.path / "path")}
         check = subprocess.run(["sha256sum", program], capture_output=True, check=True).stdout.decode().split()[0]
         url = pathlib.Path(program).as_uri()
-        if shutil.which("curl"):
-            assert place.run("bash", "-eo", "pipefail", "-c", runs[0], MMKEEP_URL=url, MMKEEP_SHA256=check, **given)[1] == 0, place.told
-            assert (place.path / "path").read_text().strip() == str(place.path / "temp/mmkeep")
-            assert place.run("bash", "-eo", "pipefail", "-c", runs[0], MMKEEP_URL=url, MMKEEP_SHA256="0" * 64, **given)[1] != 0
+        assert place.run("bash", "-eo", "pipefail", "-c", runs[0], MMKEEP_URL=url, MMKEEP_SHA256=check, **given)[1] == 0, place.told
+        assert (place.path / "path").read_text().strip() == str(place.path / "temp/mmkeep")
+        assert place.run("bash", "-eo", "pipefail", "-c", runs[0], MMKEEP_URL=url, MMKEEP_SHA256="0" * 64, **given)[1] != 0
         for name, status in (("db/faults.mm", 1), ("db/clean.mm", 0)):
             told, ended = place.run("bash", "-eo", "pipefail", "-c", runs[1], DATABASE=name, **given)
             assert ended == status and told.startswith("::add-matcher::ci/problem-matcher.json\n"), (told, place.told)
